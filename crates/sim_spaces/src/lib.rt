@@ -4,7 +4,9 @@
 pub use digests::class_digest;
 pub use home::Home;
 pub use homes::Homes;
+pub use names::{class_name_of, method_of, shown_as};
 
 mod digests;
 mod home;
 mod homes;
+mod names;

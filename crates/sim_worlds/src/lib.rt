@@ -8,7 +8,7 @@
 #![tactic(auto)]
 
 pub use fault::{PlayFault, ScriptFault};
-pub use played::{Origin, Played, Shown, Start};
+pub use played::{Named, Origin, Played, Shown, Start};
 pub use script::play_script;
 pub use texts::{SpaceNames, put_object, put_outcome};
 pub use variables::{TaskKey, Variable, Variables, started};

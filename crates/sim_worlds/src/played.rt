@@ -1,6 +1,6 @@
 //! What a script asks of the spaces that it plays.
 
-use sp_world::{CoreFault, Inhabitant, Output};
+use sp_world::{CoreFault, Inhabitant};
 use space_ids::{ClassId, ObjId, Uuid, Value};
 use std::alloc::AllocError;
 
@@ -24,24 +24,23 @@ pub struct Shown {
     pub entries: usize,
 }
 
-/// A space of a world, with its class set.
-pub trait Played: Inhabitant {
+/// What a space knows by name, of its program and of its objects.
+pub trait Named {
     /// The number of a method, by the name of a class that has or inherits it, and by its own name and
     /// descriptor: a fault of starts if there is none.
     fn method(&self, class: &str, method: &str) -> Result<u32, CoreFault>;
-
-    /// Lets a task make instructions of its own, so many at most, as one event which answers nothing; or, if it stands
-    /// at another or at its end, its step. The faults are those of a step.
-    fn run(&mut self, task: u64, most: u64) -> Result<Vec<Output>, CoreFault>;
-
-    /// The lowest task that may go on.
-    fn ready(&self) -> Option<u64>;
 
     /// The standing object at an index, in the order of ids.
     fn object(&self, index: usize) -> Option<Shown>;
 
     /// The name of a class of its set.
     fn class_name(&self, class: ClassId) -> &[u8];
+}
+
+/// A space of a world, with its class set.
+pub trait Played: Inhabitant + Named {
+    /// The lowest task that may go on.
+    fn ready(&self) -> Option<u64>;
 }
 
 /// Makes the spaces of a script.

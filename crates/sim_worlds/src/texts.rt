@@ -1,7 +1,7 @@
 //! The lines that spaces show.
 
 use crate::names::Names;
-use crate::{PlayFault, Played, Shown};
+use crate::{Named, PlayFault, Shown};
 use sp_tasks::Outcome;
 use space_ids::{Uuid, Value};
 use std::io::Write;
@@ -20,7 +20,7 @@ impl SpaceNames for Names {
 }
 
 /// Adds the line of an object of the space of this name: `S ID CLASS names=N entries=K`.
-pub fn put_object<S: Played>(
+pub fn put_object<S: Named>(
     text: &mut Vec<u8>,
     space: &S,
     name: &str,
@@ -33,7 +33,7 @@ pub fn put_object<S: Played>(
 }
 
 /// Adds the line of a variable, and of how its task ended, if it has: `VAR OUTCOME`, or `VAR waiting`.
-pub fn put_outcome<S: Played, N: SpaceNames>(
+pub fn put_outcome<S: Named, N: SpaceNames>(
     text: &mut Vec<u8>,
     space: &S,
     names: &N,

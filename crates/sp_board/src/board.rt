@@ -1,9 +1,8 @@
 //! What lies behind the lock: the space, its connections, and what is to be done.
 
+use crate::{Progress, Served};
 use net_message::Message;
-use sim_worlds::{
-    PlayFault, Played, SpaceNames, TaskKey, Variables, put_object, put_outcome, started,
-};
+use sim_worlds::{PlayFault, SpaceNames, TaskKey, Variables, put_object, put_outcome, started};
 use sp_links::{Host, Link, Links, frame_of};
 use sp_world::{CoreFault, Event, Output};
 use space_ids::{ObjId, Row, Uuid, Value};
@@ -14,14 +13,28 @@ use std::mem;
 use std::net::TcpStream;
 use std::sync::Arc;
 
-/// How many instructions of its own a task makes at most as one event.
-const MOST_OWN: u64 = 1_024;
+// How many instructions of its own a task makes at most in a turn.
+const MOST_OWN: u64 = 512;
+
+// How many turns a task has under the lock before it computes apart.
+const TURNS: usize = 32;
 
 /// Why serving ends before its input does.
 #[derive(Clone, Copy, PartialEq, Eq)]
 pub enum Fault {
     Memory,
     Output,
+}
+
+/// What came of the turns of a task.
+#[derive(Drop)]
+pub enum Advance<A> {
+    /// It waits for a reply, has ended, or is refused.
+    Rests,
+    /// It may go on, after those that wait for their turn.
+    Waits,
+    /// It may go on, and computes apart from the space.
+    Computes(A),
 }
 
 /// The space, its connections, and what is to be done.
@@ -103,7 +116,7 @@ impl SpaceNames for Ids {
     }
 }
 
-impl<S: Played + Drop> Board<S> {
+impl<S: Served + Drop> Board<S> {
     /// A space without a connection.
     pub fn new(alloc: Global, space: S) -> Board<S> {
         Board {
@@ -137,16 +150,29 @@ impl<S: Played + Drop> Board<S> {
         self.hand_on(rt, answered)
     }
 
-    /// Lets a task that may go on have turns, so many at most: each is a step, or a row of instructions of its own.
-    /// Returns whether it had all: then it may go on.
-    pub fn run<R: Host>(&mut self, rt: &R, task: u64, turns: usize) -> bool {
-        for _ in 0..turns {
-            let answered = self.space.run(task, MOST_OWN);
-            if self.hand_on(rt, answered).is_err() {
-                return false;
+    /// Lets a task that may go on have some turns. One that may go on after all of them is taken apart, or if that
+    /// cannot be, waits for its turn.
+    pub fn advance<R: Host>(&mut self, rt: &R, task: u64) -> Advance<S::Apart> {
+        if !self.work(rt, task) {
+            return Advance::Rests;
+        }
+        match self.space.lend(task) {
+            Some(apart) => Advance::Computes(apart),
+            None => {
+                self.put_back(task);
+                Advance::Waits
             }
         }
-        true
+    }
+
+    // Lets a task have its turns under the lock. Returns whether it may go on.
+    fn work<R: Host>(&mut self, rt: &R, task: u64) -> bool {
+        let (answered, goes_on) = match self.space.work(task, MOST_OWN, TURNS) {
+            Ok(Progress { outputs, goes_on }) => (Ok(outputs), goes_on),
+            Err(fault) => (Err(fault), false),
+        };
+        let _ = self.hand_on(rt, answered);
+        goes_on
     }
 
     /// A task may go on, after those that wait for their turn.

@@ -4,6 +4,8 @@
 //! and dials, tasks that may go on and lines to the rows from which threads take them.
 #![tactic(auto)]
 
-pub use board::{Board, Due, Fault};
+pub use board::{Advance, Board, Due, Fault};
+pub use served::{Progress, Served};
 
 mod board;
+mod served;

@@ -2,14 +2,14 @@
 
 use crate::Gate;
 use crate::hall::Hall;
-use sim_worlds::Played;
+use sp_board::Served;
 use sp_links::Host;
 use sp_world::Event;
 use std::sync::CondvarTimeouts;
 use std::time::{Duration, Instant};
 
 /// Lets a moment pass, sweeps, and ends silent connections, each second, until serving stops.
-pub(crate) fn tick<R: Host, S: Played + Drop, G: Gate>(rt: &R, hall: &Hall<S, G>) {
+pub(crate) fn tick<R: Host, S: Served + Drop, G: Gate>(rt: &R, hall: &Hall<S, G>) {
     let Ok(start) = Instant::now(rt) else {
         return;
     };
@@ -35,7 +35,7 @@ pub(crate) fn tick<R: Host, S: Played + Drop, G: Gate>(rt: &R, hall: &Hall<S, G>
 }
 
 // Ends the connections on which nothing has come for too long.
-fn end_silent<R: Host, S: Played + Drop, G: Gate>(rt: &R, hall: &Hall<S, G>) {
+fn end_silent<R: Host, S: Served + Drop, G: Gate>(rt: &R, hall: &Hall<S, G>) {
     let guard = hall.board.lock(rt);
     let links = guard.links.all();
     drop(guard);

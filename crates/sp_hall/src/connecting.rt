@@ -2,11 +2,10 @@
 
 use crate::Gate;
 use crate::hall::Hall;
-use crate::working::SLICE;
+use crate::working::{compute, run_task};
 use dev_io::StdSource;
 use net_message::Message;
-use sim_worlds::Played;
-use sp_board::Fault;
+use sp_board::{Advance, Fault, Served};
 use sp_inflow::{Arrival, Arrivals};
 use sp_links::{Host, Link};
 use sp_world::Event;
@@ -18,8 +17,8 @@ use std::sync::Arc;
 use std::thread::{Scope, sleep};
 use std::time::Duration;
 
-// How many slices a reading thread runs of a task.
-const SLICES: usize = 4;
+// How often a reading thread lets a task compute more before it leaves it to the workers.
+const ROUNDS: usize = 1;
 
 // How long a dial may take, in seconds.
 const DIALLING: u64 = 5;
@@ -38,11 +37,14 @@ impl Read for Incoming {
 }
 
 /// Enters the connections that others make, until serving stops.
-pub(crate) fn accept_all<'s, E, R: Host, S: Played + Drop + Send, G: Gate + Sync>(
+pub(crate) fn accept_all<'s, E, R: Host, S: Served + Drop + Send, G: Gate + Sync>(
     rt: &'s R,
     scope: &'s Scope<'s, E>,
     hall: &'s Hall<S, G>,
-) {
+)
+where
+    S::Apart: Send,
+{
     let Some(listener) = &hall.listener else {
         return;
     };
@@ -59,11 +61,14 @@ pub(crate) fn accept_all<'s, E, R: Host, S: Played + Drop + Send, G: Gate + Sync
 
 /// Dials the peers that the space asks for, each in a thread of its own, and enters the connections that come of it,
 /// until serving stops.
-pub(crate) fn dial_all<'s, E, R: Host, S: Played + Drop + Send, G: Gate + Sync>(
+pub(crate) fn dial_all<'s, E, R: Host, S: Served + Drop + Send, G: Gate + Sync>(
     rt: &'s R,
     scope: &'s Scope<'s, E>,
     hall: &'s Hall<S, G>,
-) {
+)
+where
+    S::Apart: Send,
+{
     for _ in rt.forever() {
         match next_dial(rt, hall) {
             Some(Dialling::Asked(index)) => start_dial(rt, scope, hall, index),
@@ -86,7 +91,7 @@ enum Dialling {
 }
 
 // What is to be done next about dials, once there is something. None at the stop.
-fn next_dial<R: Host, S: Played + Drop, G: Gate>(rt: &R, hall: &Hall<S, G>) -> Option<Dialling> {
+fn next_dial<R: Host, S: Served + Drop, G: Gate>(rt: &R, hall: &Hall<S, G>) -> Option<Dialling> {
     let guard = hall.board.lock(rt);
     let mut guard = hall.dial.wait_while(rt, guard, |board| {
         board.dials.is_empty() && board.made.is_empty() && !board.is_stopped
@@ -106,7 +111,7 @@ fn next_dial<R: Host, S: Played + Drop, G: Gate>(rt: &R, hall: &Hall<S, G>) -> O
 }
 
 // A dial to a peer. One of which it is not known where it listens refuses.
-fn known<R: Host, S: Played + Drop, G: Gate>(rt: &R, hall: &Hall<S, G>, peer: Uuid) -> Dialling {
+fn known<R: Host, S: Served + Drop, G: Gate>(rt: &R, hall: &Hall<S, G>, peer: Uuid) -> Dialling {
     match hall.peers.iter().position(|known| known.id == peer) {
         Some(index) => Dialling::Asked(index),
         None => {
@@ -117,12 +122,15 @@ fn known<R: Host, S: Played + Drop, G: Gate>(rt: &R, hall: &Hall<S, G>, peer: Uu
 }
 
 // Starts the thread of a dial.
-fn start_dial<'s, E, R: Host, S: Played + Drop + Send, G: Gate + Sync>(
+fn start_dial<'s, E, R: Host, S: Served + Drop + Send, G: Gate + Sync>(
     rt: &'s R,
     scope: &'s Scope<'s, E>,
     hall: &'s Hall<S, G>,
     index: usize,
-) {
+)
+where
+    S::Apart: Send,
+{
     let is_started = scope.spawn(move || dial(rt, hall, index)).is_ok();
     if !is_started {
         hall.fail(rt, Fault::Memory);
@@ -130,7 +138,7 @@ fn start_dial<'s, E, R: Host, S: Played + Drop + Send, G: Gate + Sync>(
 }
 
 // Makes a connection to the peer of this index, or tells that it refused.
-fn dial<R: Host, S: Played + Drop, G: Gate>(rt: &R, hall: &Hall<S, G>, index: usize) {
+fn dial<R: Host, S: Served + Drop, G: Gate>(rt: &R, hall: &Hall<S, G>, index: usize) {
     let Some(peer) = hall.peers.get(index) else {
         return;
     };
@@ -150,13 +158,16 @@ fn dial<R: Host, S: Played + Drop, G: Gate>(rt: &R, hall: &Hall<S, G>, index: us
 }
 
 // Enters a connection, and starts its threads. `dialled` is the index of the peer that was dialled, if one was.
-fn enter<'s, E, R: Host, S: Played + Drop + Send, G: Gate + Sync>(
+fn enter<'s, E, R: Host, S: Served + Drop + Send, G: Gate + Sync>(
     rt: &'s R,
     scope: &'s Scope<'s, E>,
     hall: &'s Hall<S, G>,
     stream: TcpStream,
     dialled: Option<usize>,
-) {
+)
+where
+    S::Apart: Send,
+{
     let _ = stream.set_nodelay(true);
     let _ = stream.set_write_timeout(Some(Duration::from_secs(WRITING)));
     let mut guard = hall.board.lock(rt);
@@ -176,12 +187,15 @@ fn enter<'s, E, R: Host, S: Played + Drop + Send, G: Gate + Sync>(
     }
 }
 
-fn start_threads<'s, E, R: Host, S: Played + Drop + Send, G: Gate + Sync>(
+fn start_threads<'s, E, R: Host, S: Served + Drop + Send, G: Gate + Sync>(
     rt: &'s R,
     scope: &'s Scope<'s, E>,
     hall: &'s Hall<S, G>,
     link: &Arc<Link>,
-) -> Result<(), AllocError> {
+) -> Result<(), AllocError>
+where
+    S::Apart: Send,
+{
     let reading = Arc::try_clone(link)?;
     let writing = Arc::try_clone(link)?;
     let is_reading = scope.spawn(move || read_all(rt, hall, reading)).is_ok();
@@ -194,7 +208,7 @@ fn start_threads<'s, E, R: Host, S: Played + Drop + Send, G: Gate + Sync>(
 }
 
 // The reading thread: each frame is an event, and so is the end. At the end the connection is forgotten.
-fn read_all<R: Host, S: Played + Drop, G: Gate>(rt: &R, hall: &Hall<S, G>, link: Arc<Link>) {
+fn read_all<R: Host, S: Served + Drop, G: Gate>(rt: &R, hall: &Hall<S, G>, link: Arc<Link>) {
     if read_frames(rt, hall, &link).is_err() {
         hall.fail(rt, Fault::Memory);
     }
@@ -204,7 +218,7 @@ fn read_all<R: Host, S: Played + Drop, G: Gate>(rt: &R, hall: &Hall<S, G>, link:
 }
 
 // Tells what comes on a connection, until its end.
-fn read_frames<R: Host, S: Played + Drop, G: Gate>(
+fn read_frames<R: Host, S: Served + Drop, G: Gate>(
     rt: &R,
     hall: &Hall<S, G>,
     link: &Arc<Link>,
@@ -225,7 +239,7 @@ fn read_frames<R: Host, S: Played + Drop, G: Gate>(
 }
 
 // Tells the space what came. An end is told if nobody told one before.
-fn tell<R: Host, S: Played + Drop, G: Gate>(
+fn tell<R: Host, S: Served + Drop, G: Gate>(
     rt: &R,
     hall: &Hall<S, G>,
     link: &Link,
@@ -246,25 +260,31 @@ fn tell<R: Host, S: Played + Drop, G: Gate>(
     }
 }
 
-// Lets a frame come, and runs a task that may go on for a few slices: most often the one to which the frame brought
-// what it waits for, or which it started. So no other thread has to wake for it, and what it sends goes out in one
-// write with what the frame is answered by.
-fn receive<R: Host, S: Played + Drop, G: Gate>(rt: &R, hall: &Hall<S, G>, event: &Event) {
+// Lets a frame come, and runs a task that may go on for a while: most often the one to which the frame brought what it
+// waits for, or which it started. So no other thread has to wake for it, and what it sends goes out in one write with
+// what the frame is answered by. One that computes for longer is left to the workers.
+fn receive<R: Host, S: Served + Drop, G: Gate>(rt: &R, hall: &Hall<S, G>, event: &Event) {
     let mut guard = hall.board.lock(rt);
     let board = &mut *guard;
     let _ = board.on(rt, event);
-    if let Some(task) = board.ready.pop_front()
-        && board.run(rt, task, SLICES * SLICE)
-    {
-        board.put_back(task);
-    }
+    let computing = match board.ready.pop_front() {
+        Some(task) => match board.advance(rt, task) {
+            Advance::Computes(apart) => Some((task, apart)),
+            Advance::Rests | Advance::Waits => None,
+        },
+        None => None,
+    };
     let due = board.take_due();
     drop(guard);
     hall.attend(rt, due);
+    if let Some((task, apart)) = computing {
+        compute(rt, hall, apart);
+        let _ = run_task(rt, hall, task, ROUNDS);
+    }
 }
 
 // The writing thread. A write that failed is told with the frames that did not go out, if nobody told an end before.
-fn write_all<R: Host, S: Played + Drop, G: Gate>(rt: &R, hall: &Hall<S, G>, link: &Link) {
+fn write_all<R: Host, S: Served + Drop, G: Gate>(rt: &R, hall: &Hall<S, G>, link: &Link) {
     if link.write_on(rt) && link.end(rt) {
         let mut guard = hall.board.lock(rt);
         let board = &mut *guard;

@@ -1,8 +1,7 @@
 //! What the threads of a served space share.
 
 use crate::Gate;
-use sim_worlds::Played;
-use sp_board::{Board, Due, Fault};
+use sp_board::{Board, Due, Fault, Served};
 use sp_links::Host;
 use sp_world::{CoreFault, Event};
 use space_ids::Uuid;
@@ -38,7 +37,7 @@ pub struct Hall<S, G> {
     pub ended: Condvar,
 }
 
-impl<S: Played + Drop, G: Gate> Hall<S, G> {
+impl<S: Served + Drop, G: Gate> Hall<S, G> {
     /// A space at a listener, or without one, at whose tasks nobody works yet.
     pub fn new(
         alloc: Global,

@@ -2,15 +2,14 @@
 
 use crate::Gate;
 use crate::hall::Hall;
-use sim_worlds::Played;
-use sp_board::Fault;
+use sp_board::{Fault, Served};
 use sp_links::Host;
 use std::io::Write;
 use std::sync::Mutex;
 
 /// Prints the lines that are told, as they are told, until serving stops and all are printed. A pipe that is full
 /// stops this thread alone.
-pub(crate) fn print_all<R: Host, S: Played + Drop, G: Gate, O: Write>(
+pub(crate) fn print_all<R: Host, S: Served + Drop, G: Gate, O: Write>(
     rt: &R,
     hall: &Hall<S, G>,
     out: &Mutex<O>,

@@ -2,14 +2,17 @@
 
 use crate::Gate;
 use crate::hall::Hall;
-use sim_worlds::Played;
+use sp_board::{Advance, Served};
 use sp_links::Host;
 
-/// How many events a task makes before others come to their turn.
-pub(crate) const SLICE: usize = 64;
+// How many instructions a task makes at most apart from its space before who runs it looks at the space again.
+const MOST_APART: u64 = 65_536;
 
-/// Runs tasks that may go on, a slice each in turn, until serving stops.
-pub(crate) fn work<R: Host, S: Played + Drop, G: Gate>(rt: &R, hall: &Hall<S, G>) {
+// How often a worker lets a task compute before others come to their turn.
+const ROUNDS: usize = 4;
+
+/// Runs tasks that may go on, for a while each in turn, until serving stops.
+pub(crate) fn work<R: Host, S: Served + Drop, G: Gate>(rt: &R, hall: &Hall<S, G>) {
     for _ in rt.forever() {
         let Some(task) = next_task(rt, hall) else {
             return;
@@ -19,14 +22,14 @@ pub(crate) fn work<R: Host, S: Played + Drop, G: Gate>(rt: &R, hall: &Hall<S, G>
                 break;
             }
         }
-        if run_slice(rt, hall, task) {
+        if run_task(rt, hall, task, ROUNDS) {
             hall.gate.after_end(task);
         }
     }
 }
 
 // The task that has waited longest to go on, once there is one. None at the stop.
-fn next_task<R: Host, S: Played + Drop, G: Gate>(rt: &R, hall: &Hall<S, G>) -> Option<u64> {
+fn next_task<R: Host, S: Served + Drop, G: Gate>(rt: &R, hall: &Hall<S, G>) -> Option<u64> {
     let guard = hall.board.lock(rt);
     let mut guard = hall.work.wait_while(rt, guard, |board| {
         board.ready.is_empty() && !board.is_stopped
@@ -37,17 +40,55 @@ fn next_task<R: Host, S: Played + Drop, G: Gate>(rt: &R, hall: &Hall<S, G>) -> O
     guard.ready.pop_front()
 }
 
-// Runs a slice of a task; one that may go on after it comes to its turn again. Returns whether it has come to where
-// it may not.
-fn run_slice<R: Host, S: Played + Drop, G: Gate>(rt: &R, hall: &Hall<S, G>, task: u64) -> bool {
+/// Runs a task for a while: it computes so many times at most. Returns whether it has come to where it may not go on.
+pub(crate) fn run_task<R: Host, S: Served + Drop, G: Gate>(
+    rt: &R,
+    hall: &Hall<S, G>,
+    task: u64,
+    rounds: usize,
+) -> bool {
+    for _ in 0..rounds {
+        match advance(rt, hall, task) {
+            Advance::Rests => return true,
+            Advance::Waits => return false,
+            Advance::Computes(apart) => compute(rt, hall, apart),
+        }
+    }
+    wait_for_turn(rt, hall, task);
+    false
+}
+
+// Lets a task have some turns.
+fn advance<R: Host, S: Served + Drop, G: Gate>(
+    rt: &R,
+    hall: &Hall<S, G>,
+    task: u64,
+) -> Advance<S::Apart> {
     let mut guard = hall.board.lock(rt);
     let board = &mut *guard;
-    let may_go_on = board.run(rt, task, SLICE);
-    if may_go_on {
-        board.put_back(task);
-    }
+    let advanced = board.advance(rt, task);
     let due = board.take_due();
     drop(guard);
     hall.attend(rt, due);
-    !may_go_on
+    advanced
+}
+
+/// Lets a task compute without the lock, and gives it back to its space.
+pub(crate) fn compute<R: Host, S: Served + Drop, G: Gate>(
+    rt: &R,
+    hall: &Hall<S, G>,
+    mut apart: S::Apart,
+) {
+    let _ = S::compute(&mut apart, MOST_APART);
+    hall.board.lock(rt).space.give_back(apart);
+}
+
+// Has a task that may go on wait for its turn, after all others.
+fn wait_for_turn<R: Host, S: Served + Drop, G: Gate>(rt: &R, hall: &Hall<S, G>, task: u64) {
+    let mut guard = hall.board.lock(rt);
+    let board = &mut *guard;
+    board.put_back(task);
+    let due = board.take_due();
+    drop(guard);
+    hall.attend(rt, due);
 }

@@ -1,8 +1,8 @@
 //! A space for one call.
 
 use crate::serving::has_not_ended;
-use sim_worlds::{PlayFault, Played};
-use sp_board::Board;
+use sim_worlds::PlayFault;
+use sp_board::{Board, Served};
 use sp_hall::{Gate, Hall, OpenGate, Peer, start_clock, start_dialler, start_worker};
 use sp_links::Host;
 use sp_tasks::Outcome;
@@ -52,7 +52,7 @@ pub struct Caller<S> {
     call: OneCall,
 }
 
-impl<S: Played + Drop> Caller<S> {
+impl<S: Served + Drop> Caller<S> {
     /// A space to which nothing has happened, which is to make a call of a peer's object.
     /// `AllocError` if memory runs out.
     pub fn new(
@@ -72,7 +72,10 @@ impl<S: Played + Drop> Caller<S> {
 
 /// Makes a call: looks the name up at the peer, and starts the method. Returns how that ended, once its references
 /// were let go, or a second has passed. All threads are joined.
-pub fn call_on<'x, R: Host, S: Played + Drop + Send>(rt: &'x R, caller: &'x Caller<S>) -> Called {
+pub fn call_on<'x, R: Host, S: Served + Drop + Send>(rt: &'x R, caller: &'x Caller<S>) -> Called
+where
+    S::Apart: Send,
+{
     thread::scope(thread::scope_env(), rt, |scope| {
         start_all(rt, scope, &caller.hall);
         let called = make(rt, &caller.hall, &caller.call);
@@ -83,18 +86,21 @@ pub fn call_on<'x, R: Host, S: Played + Drop + Send>(rt: &'x R, caller: &'x Call
 }
 
 // Starts the threads round the space.
-fn start_all<'s, E, R: Host, S: Played + Drop + Send>(
+fn start_all<'s, E, R: Host, S: Served + Drop + Send>(
     rt: &'s R,
     scope: &'s Scope<'s, E>,
     hall: &'s Hall<S, OpenGate>,
-) {
+)
+where
+    S::Apart: Send,
+{
     start_clock(rt, scope, hall);
     start_dialler(rt, scope, hall);
     start_worker(rt, scope, hall);
 }
 
 // Makes the call, and returns how it ended.
-fn make<R: Host, S: Played + Drop, G: Gate>(rt: &R, hall: &Hall<S, G>, call: &OneCall) -> Called {
+fn make<R: Host, S: Served + Drop, G: Gate>(rt: &R, hall: &Hall<S, G>, call: &OneCall) -> Called {
     match try_call(rt, hall, call) {
         Ok(called) => called,
         Err(CoreFault::Memory) => Called::Memory,
@@ -102,7 +108,7 @@ fn make<R: Host, S: Played + Drop, G: Gate>(rt: &R, hall: &Hall<S, G>, call: &On
     }
 }
 
-fn try_call<R: Host, S: Played + Drop, G: Gate>(
+fn try_call<R: Host, S: Served + Drop, G: Gate>(
     rt: &R,
     hall: &Hall<S, G>,
     call: &OneCall,
@@ -118,7 +124,7 @@ fn try_call<R: Host, S: Played + Drop, G: Gate>(
 }
 
 // Starts the look-up, and returns the number of the method.
-fn look_up<R: Host, S: Played + Drop, G: Gate>(
+fn look_up<R: Host, S: Served + Drop, G: Gate>(
     rt: &R,
     hall: &Hall<S, G>,
     call: &OneCall,
@@ -143,7 +149,7 @@ fn look_up<R: Host, S: Played + Drop, G: Gate>(
 }
 
 // Waits until the task of a variable has ended, or serving stops.
-fn wait_for<R: Host, S: Played + Drop, G: Gate>(rt: &R, hall: &Hall<S, G>, name: &str) {
+fn wait_for<R: Host, S: Served + Drop, G: Gate>(rt: &R, hall: &Hall<S, G>, name: &str) {
     let guard = hall.board.lock(rt);
     let guard = hall.ended.wait_while(rt, guard, |board| {
         !board.is_stopped && has_not_ended(board, name)
@@ -152,7 +158,7 @@ fn wait_for<R: Host, S: Played + Drop, G: Gate>(rt: &R, hall: &Hall<S, G>, name:
 }
 
 // Starts the method with what was looked up. Returns whether that gave a reference.
-fn begin_method<R: Host, S: Played + Drop, G: Gate>(
+fn begin_method<R: Host, S: Served + Drop, G: Gate>(
     rt: &R,
     hall: &Hall<S, G>,
     call: &OneCall,
@@ -189,7 +195,7 @@ fn words_of(alloc: Global, call: &OneCall) -> Result<Vec<&str>, AllocError> {
 }
 
 // How the task of a variable ended, as a line without the variable.
-fn ending_of<R: Host, S: Played + Drop, G: Gate>(
+fn ending_of<R: Host, S: Served + Drop, G: Gate>(
     rt: &R,
     hall: &Hall<S, G>,
     name: &str,
@@ -208,7 +214,7 @@ fn ending_of<R: Host, S: Played + Drop, G: Gate>(
 }
 
 // The line of a variable without its name and the blank after that.
-fn line_of<S: Played + Drop>(
+fn line_of<S: Served + Drop>(
     alloc: Global,
     board: &mut Board<S>,
     name: &str,
@@ -225,7 +231,7 @@ fn line_of<S: Played + Drop>(
 }
 
 // Lets all results go, and waits until what says so has gone out, or for a second.
-fn let_go<R: Host, S: Played + Drop, G: Gate>(rt: &R, hall: &Hall<S, G>) {
+fn let_go<R: Host, S: Served + Drop, G: Gate>(rt: &R, hall: &Hall<S, G>) {
     let mut guard = hall.board.lock(rt);
     let board = &mut *guard;
     board.let_go(rt);
@@ -241,7 +247,7 @@ fn let_go<R: Host, S: Played + Drop, G: Gate>(rt: &R, hall: &Hall<S, G>) {
 }
 
 // Whether each frame that the space gave has gone out.
-fn has_sent_all<R: Host, S: Played + Drop, G: Gate>(rt: &R, hall: &Hall<S, G>) -> bool {
+fn has_sent_all<R: Host, S: Served + Drop, G: Gate>(rt: &R, hall: &Hall<S, G>) -> bool {
     let guard = hall.board.lock(rt);
     let links = guard.links.all();
     drop(guard);

@@ -1,8 +1,8 @@
 //! Input lines, as those of scripts without the space's name.
 
 use sim_script::{Command, read_line};
-use sim_worlds::{PlayFault, Played};
-use sp_board::Board;
+use sim_worlds::PlayFault;
+use sp_board::{Board, Served};
 use sp_hall::{Gate, Hall};
 use sp_links::Host;
 use sp_world::{CoreFault, Event};
@@ -27,7 +27,7 @@ pub(crate) enum Ending {
 }
 
 /// Obeys the lines of an input, until it ends, a line is bad, or serving stops.
-pub(crate) fn obey_all<R: Host, S: Played + Drop, G: Gate, I: BufRead>(
+pub(crate) fn obey_all<R: Host, S: Served + Drop, G: Gate, I: BufRead>(
     rt: &R,
     hall: &Hall<S, G>,
     input: &mut I,
@@ -53,7 +53,7 @@ pub(crate) fn obey_all<R: Host, S: Played + Drop, G: Gate, I: BufRead>(
 }
 
 // Obeys a line.
-fn obey<R: Host, S: Played + Drop, G: Gate>(
+fn obey<R: Host, S: Served + Drop, G: Gate>(
     rt: &R,
     hall: &Hall<S, G>,
     line: &[u8],
@@ -97,7 +97,7 @@ fn said_here(alloc: Global, line: &str) -> Result<String, PlayFault> {
     Ok(said)
 }
 
-fn obey_command<R: Host, S: Played + Drop>(
+fn obey_command<R: Host, S: Served + Drop>(
     rt: &R,
     alloc: Global,
     board: &mut Board<S>,
@@ -136,7 +136,7 @@ fn obey_command<R: Host, S: Played + Drop>(
     }
 }
 
-fn acknowledge<R: Host, S: Played + Drop>(
+fn acknowledge<R: Host, S: Served + Drop>(
     rt: &R,
     board: &mut Board<S>,
     variable: &str,
@@ -148,7 +148,7 @@ fn acknowledge<R: Host, S: Played + Drop>(
     happen(rt, board, &Event::RootAck(task))
 }
 
-fn bind<R: Host, S: Played + Drop>(
+fn bind<R: Host, S: Served + Drop>(
     rt: &R,
     alloc: Global,
     board: &mut Board<S>,
@@ -160,7 +160,7 @@ fn bind<R: Host, S: Played + Drop>(
     happen(rt, board, &Event::Bind { name, value })
 }
 
-fn rebind<R: Host, S: Played + Drop>(
+fn rebind<R: Host, S: Served + Drop>(
     rt: &R,
     alloc: Global,
     board: &mut Board<S>,
@@ -172,7 +172,7 @@ fn rebind<R: Host, S: Played + Drop>(
     happen(rt, board, &Event::Rebind { name, value })
 }
 
-fn unbind<R: Host, S: Played + Drop>(
+fn unbind<R: Host, S: Served + Drop>(
     rt: &R,
     alloc: Global,
     board: &mut Board<S>,
@@ -187,7 +187,7 @@ fn row(alloc: Global, name: &str) -> Result<Row<u8>, PlayFault> {
 }
 
 // Lets an event of the space's own happen. One that is refused changes nothing.
-fn happen<R: Host, S: Played + Drop>(
+fn happen<R: Host, S: Served + Drop>(
     rt: &R,
     board: &mut Board<S>,
     event: &Event,
@@ -198,7 +198,7 @@ fn happen<R: Host, S: Played + Drop>(
     }
 }
 
-fn root<R: Host, S: Played + Drop>(
+fn root<R: Host, S: Served + Drop>(
     rt: &R,
     board: &mut Board<S>,
     variable: &str,
@@ -221,7 +221,7 @@ fn root<R: Host, S: Played + Drop>(
     }
 }
 
-fn look_up<R: Host, S: Played + Drop>(
+fn look_up<R: Host, S: Served + Drop>(
     rt: &R,
     alloc: Global,
     board: &mut Board<S>,

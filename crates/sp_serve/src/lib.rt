@@ -3,6 +3,7 @@
 
 pub use calling::{Called, Caller, OneCall, call_on};
 pub use serving::{Bound, Plan, Station, open, serve_on};
+pub use sp_board::Served;
 pub use sp_hall::{Gate, OpenGate, Peer};
 pub use sp_links::Host;
 

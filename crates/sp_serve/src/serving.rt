@@ -1,8 +1,8 @@
 //! Serving a space from its first line to the last.
 
 use crate::input::{Ending, obey_all};
-use sim_worlds::{PlayFault, Played};
-use sp_board::{Board, Fault};
+use sim_worlds::PlayFault;
+use sp_board::{Board, Fault, Served};
 use sp_hall::{
     Gate, Hall, Peer, start_acceptor, start_clock, start_dialler, start_printer, start_worker,
 };
@@ -52,7 +52,7 @@ pub struct Station<S, G, O> {
     fuel: u64,
 }
 
-impl<S: Played + Drop, G: Gate, O> Station<S, G, O> {
+impl<S: Served + Drop, G: Gate, O> Station<S, G, O> {
     /// A space to which nothing has happened, at a listener. `gate` holds its workers back; its lines go to `out`.
     pub fn new(
         alloc: Global,
@@ -86,12 +86,15 @@ impl<S: Played + Drop, G: Gate, O> Station<S, G, O> {
 pub fn serve_on<
     'x,
     R: Host,
-    S: Played + Drop + Send,
+    S: Served + Drop + Send,
     G: Gate + Drop + Sync,
     I: BufRead,
     O: Write + Send + Drop,
     E: Write,
->(rt: &'x R, station: &'x Station<S, G, O>, input: &mut I, err: &mut E) -> u8 {
+>(rt: &'x R, station: &'x Station<S, G, O>, input: &mut I, err: &mut E) -> u8
+where
+    S::Apart: Send,
+{
     let hall = &station.hall;
     let ending = thread::scope(thread::scope_env(), rt, |scope| {
         start_all(rt, scope, station);
@@ -108,10 +111,13 @@ fn start_all<
     's,
     E,
     R: Host,
-    S: Played + Drop + Send,
+    S: Served + Drop + Send,
     G: Gate + Drop + Sync,
     O: Write + Send + Drop,
->(rt: &'s R, scope: &'s Scope<'s, E>, station: &'s Station<S, G, O>) {
+>(rt: &'s R, scope: &'s Scope<'s, E>, station: &'s Station<S, G, O>)
+where
+    S::Apart: Send,
+{
     let hall = &station.hall;
     start_printer(rt, scope, hall, &station.out);
     start_clock(rt, scope, hall);
@@ -123,7 +129,7 @@ fn start_all<
 }
 
 // Tells the address, binds what is to be bound, and obeys the input.
-fn obey_plan<R: Host, S: Played + Drop, G: Gate, O, I: BufRead>(
+fn obey_plan<R: Host, S: Served + Drop, G: Gate, O, I: BufRead>(
     rt: &R,
     station: &Station<S, G, O>,
     input: &mut I,
@@ -143,7 +149,7 @@ fn obey_plan<R: Host, S: Played + Drop, G: Gate, O, I: BufRead>(
     obey_all(rt, hall, input)
 }
 
-fn tell_address<R: Host, S: Played + Drop, G: Gate>(
+fn tell_address<R: Host, S: Served + Drop, G: Gate>(
     rt: &R,
     hall: &Hall<S, G>,
 ) -> Result<(), PlayFault> {
@@ -159,7 +165,7 @@ fn tell_address<R: Host, S: Played + Drop, G: Gate>(
 
 // Makes an object by its method, and binds it. Returns whether it is bound; if it is not, what came of the method is
 // told.
-fn bind<R: Host, S: Played + Drop, G: Gate>(
+fn bind<R: Host, S: Served + Drop, G: Gate>(
     rt: &R,
     hall: &Hall<S, G>,
     bound: &Bound,
@@ -181,7 +187,7 @@ fn bind<R: Host, S: Played + Drop, G: Gate>(
 }
 
 // Starts the method that makes an object. Returns whether it started.
-fn begin_export<R: Host, S: Played + Drop, G: Gate>(
+fn begin_export<R: Host, S: Served + Drop, G: Gate>(
     rt: &R,
     hall: &Hall<S, G>,
     bound: &Bound,
@@ -204,7 +210,7 @@ fn begin_export<R: Host, S: Played + Drop, G: Gate>(
 }
 
 /// Whether the task of a variable goes on.
-pub(crate) fn has_not_ended<S: Played + Drop>(board: &Board<S>, name: &str) -> bool {
+pub(crate) fn has_not_ended<S: Served + Drop>(board: &Board<S>, name: &str) -> bool {
     match board.variables.find(name) {
         Some(variable) => variable.outcome.is_none(),
         None => false,
@@ -212,7 +218,7 @@ pub(crate) fn has_not_ended<S: Played + Drop>(board: &Board<S>, name: &str) -> b
 }
 
 // Binds the object that the task of a variable returned, and lets its result go. Returns whether it returned one.
-fn end_export<R: Host, S: Played + Drop>(
+fn end_export<R: Host, S: Served + Drop>(
     rt: &R,
     alloc: Global,
     board: &mut Board<S>,
@@ -235,7 +241,7 @@ fn end_export<R: Host, S: Played + Drop>(
 }
 
 // Wakes the thread that accepts by a connection of our own: a listener has no other way out.
-fn wake_acceptor<R: Host, S: Played + Drop, G: Gate>(rt: &R, hall: &Hall<S, G>) {
+fn wake_acceptor<R: Host, S: Served + Drop, G: Gate>(rt: &R, hall: &Hall<S, G>) {
     let Some(address) = address_of(hall) else {
         return;
     };
@@ -247,7 +253,7 @@ fn wake_acceptor<R: Host, S: Played + Drop, G: Gate>(rt: &R, hall: &Hall<S, G>) 
 }
 
 // Where the space listens.
-fn address_of<S: Played + Drop, G: Gate>(hall: &Hall<S, G>) -> Option<SocketAddr> {
+fn address_of<S: Served + Drop, G: Gate>(hall: &Hall<S, G>) -> Option<SocketAddr> {
     match &hall.listener {
         Some(listener) => listener.local_addr().ok(),
         None => None,
@@ -255,7 +261,7 @@ fn address_of<S: Played + Drop, G: Gate>(hall: &Hall<S, G>) -> Option<SocketAddr
 }
 
 // The status, and what went wrong on standard error.
-fn status<R: Host, S: Played + Drop, G: Gate, E: Write>(
+fn status<R: Host, S: Served + Drop, G: Gate, E: Write>(
     rt: &R,
     hall: &Hall<S, G>,
     ending: Ending,

@@ -1,24 +1,29 @@
 //! From the words of `serve` and `call` to a space of the classes that they name.
 
+ghost use Rattle.std.specs.Prelude.{◌≡◌};
+ghost use Rattle.sp_classes.specs.Classes.{classes_of};
+ghost use Rattle.sp_players.specs.Limits.{AreLimits};
 ghost use Rattle.sp_reply_laws.specs.Told.{AreRemoteRules};
 
 use crate::exports::export_of;
 use crate::serving::run_space;
 use net_message::Digest;
-use sim_spaces::{Homes, class_digest};
-use sim_worlds::Origin;
+use sim_spaces::class_digest;
 use sp_call_set::CallSet;
 use sp_files::{ClassBytes, program_of};
+use sp_history::Setup;
 use sp_main::class_files;
 use sp_serve::Host;
 use sp_serve_words::{Aim, Invocation, ServeRequest, SpaceRequest, read_words};
+use sp_served::ServedSpace;
 use sp_texts::{Report, Status, folder_report, refusal_report, text_report, write_text};
 use sp_words::Folder;
 use space_ids::Uuid;
 use std::alloc::{AllocError, Global};
 use std::io::{BufRead, Write};
+use std::marker::Brand;
 use std::random::RandomSource;
-use vm_step::Program;
+use vm_step::{Limits, Program};
 
 /// Does what the words ask for, of which the first is `serve` or `call`: serves a space until the input ends, or makes
 /// one call. Returns the exit status:
@@ -157,10 +162,47 @@ fn over_classes<R: Host + RandomSource, I: BufRead, O: Write + Send + Drop, E: W
     let Ok(classes) = CallSet::new(rt.alloc(), program) else {
         return no_memory(&mut out, err);
     };
-    let homes = Homes::new(rt.alloc(), program, &classes, digest);
-    match homes.space(id) {
+    let limits = Limits {
+        fuel: most_fuel(&request.aim),
+        ..Limits::default()
+    };
+    over_setting::<Brand, R, I, O, E>(
+        rt, request, program, &classes, digest, id, limits, methods, input, out, err,
+    )
+}
+
+// Does it with a space of this program, of a setting that the caller names.
+fn over_setting<'p, N: Setup + Send, R: Host, I: BufRead, O: Write + Send + Drop, E: Write>(
+    rt: &R,
+    request: &SpaceRequest<'_>,
+    program: &'p Program,
+    classes: &'p CallSet<'p>,
+    digest: Digest,
+    id: Uuid,
+    limits: Limits,
+    methods: &[String],
+    input: &mut I,
+    mut out: O,
+    err: &mut E,
+) -> u8
+    requires classes { classes.now ≡ program.now }
+    requires rules { AreRemoteRules program.now.classes }
+    requires set { N.setting.classes ≡ classes_of program.now }
+    requires id { N.setting.id ≡ id }
+    requires digest { N.setting.digest ≡ digest }
+    requires limits { AreLimits N.setting limits }
+{
+    match ServedSpace::<'p, N>::new(rt.alloc(), program, classes, digest, id, limits) {
         Ok(space) => run_space(rt, &request.aim, methods, space, input, out, err),
         Err(_) => no_memory(&mut out, err),
+    }
+}
+
+// The most fuel of a root.
+fn most_fuel(aim: &Aim<'_>) -> u64 {
+    match aim {
+        Aim::Serve(request) => request.fuel,
+        Aim::Call(request) => request.fuel,
     }
 }
 

@@ -1,7 +1,7 @@
 //! What a space does: it is served, or makes one call.
 
 use crate::command::no_memory;
-use sim_worlds::Played;
+use sp_board::Served;
 use sp_serve::{
     Bound, Called, Caller, Host, OneCall, OpenGate, Plan, Station, call_on, open, serve_on,
 };
@@ -10,24 +10,18 @@ use sp_texts::{Status, write_text};
 use sp_world::CoreFault;
 use std::alloc::{AllocError, Global};
 use std::io::{BufRead, Write};
-use vm_step::Limits;
 
 /// Runs a space for what it is asked for. `methods` make the objects that are to be bound. Returns the status.
 pub(crate) fn run_space<
     R: Host,
-    S: Played + Drop + Send,
+    S: Served + Drop + Send,
     I: BufRead,
     O: Write + Send + Drop,
     E: Write,
->(
-    rt: &R,
-    aim: &Aim<'_>,
-    methods: &[String],
-    space: S,
-    input: &mut I,
-    mut out: O,
-    err: &mut E,
-) -> u8 {
+>(rt: &R, aim: &Aim<'_>, methods: &[String], space: S, input: &mut I, mut out: O, err: &mut E) -> u8
+where
+    S::Apart: Send,
+{
     match aim {
         Aim::Serve(request) => serve_space(rt, request, methods, space, input, out, err),
         Aim::Call(request) => call_once(rt, request, space, &mut out, err),
@@ -35,7 +29,7 @@ pub(crate) fn run_space<
 }
 
 // Serves a space at the address that is asked for.
-fn serve_space<R: Host, S: Played + Drop + Send, I: BufRead, O: Write + Send + Drop, E: Write>(
+fn serve_space<R: Host, S: Served + Drop + Send, I: BufRead, O: Write + Send + Drop, E: Write>(
     rt: &R,
     request: &ServeRequest<'_>,
     methods: &[String],
@@ -43,7 +37,10 @@ fn serve_space<R: Host, S: Played + Drop + Send, I: BufRead, O: Write + Send + D
     input: &mut I,
     mut out: O,
     err: &mut E,
-) -> u8 {
+) -> u8
+where
+    S::Apart: Send,
+{
     let Ok(plan) = plan_of(rt.alloc(), request, methods) else {
         return no_memory(&mut out, err);
     };
@@ -77,18 +74,21 @@ fn plan_of(
         bound,
         peers: request.peers.to_vec(alloc)?,
         workers: request.workers,
-        fuel: Limits::default().fuel,
+        fuel: request.fuel,
     })
 }
 
 // Makes the call that is asked for, and tells how it ended.
-fn call_once<R: Host, S: Played + Drop + Send, O: Write, E: Write>(
+fn call_once<R: Host, S: Served + Drop + Send, O: Write, E: Write>(
     rt: &R,
     request: &CallRequest<'_>,
     space: S,
     out: &mut O,
     err: &mut E,
-) -> u8 {
+) -> u8
+where
+    S::Apart: Send,
+{
     let alloc = rt.alloc();
     let Ok(call) = call_of(alloc, request) else {
         return no_memory(out, err);

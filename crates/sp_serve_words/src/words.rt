@@ -34,6 +34,8 @@ pub struct ServeRequest<'a> {
     /// The names that are to be bound, each with the class that makes its object.
     pub bound: Vec<(&'a str, &'a str)>,
     pub workers: usize,
+    /// The most fuel of a root.
+    pub fuel: u64,
 }
 
 /// What is to be called, and by which method.
@@ -118,7 +120,13 @@ fn serve_words<'a>(alloc: Global) -> Result<Command<'a>, AllocError> {
                 .long("workers")
                 .value_name("N")
                 .help("How many workers run tasks, 1 to 16 (2 if it is not said)"),
-        )
+        )?
+        .arg(option(
+            alloc,
+            "fuel",
+            "N",
+            "The most instructions of a root and of what it calls (1000000 if it is not said)",
+        ))
 }
 
 fn call_words<'a>(alloc: Global) -> Result<Command<'a>, AllocError> {
@@ -205,6 +213,9 @@ fn serve_request<'a>(alloc: Global, found: &ArgMatches<'a>) -> Result<Invocation
     let Some(workers) = workers_of(found.get_str("workers")) else {
         return refuse(alloc, "workers are 1 to 16", "");
     };
+    let Some(fuel) = fuel_of(found.get_str("fuel")) else {
+        return refuse(alloc, NO_FUEL, "");
+    };
     let peers = match peers_of(alloc, found.get_strs("peer").unwrap_or(&[]))? {
         Ok(peers) => peers,
         Err(word) => return refuse(alloc, NO_PEER, word),
@@ -221,6 +232,7 @@ fn serve_request<'a>(alloc: Global, found: &ArgMatches<'a>) -> Result<Invocation
             peers,
             bound,
             workers,
+            fuel,
         }),
     }))
 }
@@ -244,11 +256,7 @@ fn call_request<'a>(alloc: Global, found: &ArgMatches<'a>) -> Result<Invocation<
         Err(word) => return refuse(alloc, NO_UUID, word),
     };
     let Some(fuel) = fuel_of(found.get_str("fuel")) else {
-        return refuse(
-            alloc,
-            "the fuel is a whole number from 0 to 9223372036854775807",
-            "",
-        );
+        return refuse(alloc, NO_FUEL, "");
     };
     let arguments = match arguments_of(alloc, found.get_strs("argument").unwrap_or(&[]))? {
         Ok(arguments) => arguments,
@@ -274,6 +282,8 @@ const NO_UUID: &str = "this is no UUID";
 
 const NO_PEER: &str = "this is no UUID=ADDR";
 
+const NO_FUEL: &str = "the fuel is a whole number from 0 to 9223372036854775807";
+
 fn refuse<'a>(alloc: Global, why: &str, word: &str) -> Result<Invocation<'a>, AllocError> {
     if word.is_empty() {
         Ok(Invocation::Refuse(format!(in alloc; "error: {why}\n")?))
@@ -293,7 +303,7 @@ fn workers_of(word: Option<&str>) -> Option<usize> {
     }
 }
 
-// The fuel that a word says, or that of a call of which none is said.
+// The fuel that a word says, or that of a task of which none is said.
 fn fuel_of(word: Option<&str>) -> Option<u64> {
     match word {
         None => Some(Limits::default().fuel),

@@ -7,4 +7,3 @@ pub mod BeginLemmas
 pub mod HandLemmas
 pub mod NextLemmas
 pub mod SpaceStep
-pub mod SliceLemmas

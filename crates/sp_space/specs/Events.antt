@@ -1,7 +1,7 @@
 -- What events and steps make of a space that stands at the end of a history. (This project's own.)
-use Rattle.std.specs.Prelude.{◌≡◌, ◌⊎◌, ◌≤◌, ℕ, List, [], ◌∷◌, None}
+use Rattle.std.specs.Prelude.{◌≡◌, ℕ, List, [], ◌∷◌, None}
 use Rattle.sp_rules.specs.Classes.{Setting}
-use Rattle.sp_rules.specs.Events.{Event, GivenBack, Output}
+use Rattle.sp_rules.specs.Events.{Event, Output}
 use Rattle.sp_rules.specs.Refusals.{refusal}
 use Rattle.sp_rules.specs.Space.{outputs_of, state_of}
 use Rattle.sp_rules.specs.Worlds.{lent_for}
@@ -35,15 +35,3 @@ pub record IsStep (g : Setting) (h : List Event) (id : ℕ) (after : Parts) (out
 -- A step of a task is refused for this, or memory ran out.
 abbrev pub IsStepRefused : Setting → List Event → ℕ → CoreFault → Type 0
 IsStepRefused g h id fault = RefusesOrLacks (step_refusal g (state_of g h) id) fault
-
--- A task made instructions of its own, one at least and so many at most, and was given back: that is one event, which happened, and was answered so.
-pub record HasRun (g : Setting) (h : List Event) (id most : ℕ) (after : Parts) (outputs : List Output) : Type 0 where
-  pub made : ℕ
-  pub some : 1 ≤ made
-  pub within : made ≤ most
-  pub silent : outputs ≡ []
-  pub happened : Happened g h (GivenBack id made) after outputs
-
--- A task had a slice: it made instructions of its own, or a step.
-abbrev pub HadSlice : Setting → List Event → ℕ → ℕ → Parts → List Output → Type 0
-HadSlice g h id most after outputs = HasRun g h id most after outputs ⊎ IsStep g h id after outputs

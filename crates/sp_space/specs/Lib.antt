@@ -2,4 +2,3 @@ pub mod Machines
 pub mod Spaces
 pub mod Events
 pub mod Hands
-pub mod Slices

@@ -10,6 +10,5 @@ mod ending;
 mod inhabiting;
 mod machines;
 mod parts;
-mod slicing;
 mod space;
 mod stepping;

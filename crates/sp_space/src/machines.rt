@@ -1,13 +1,12 @@
 //! The machines of the living tasks.
 
-ghost use Rattle.std.specs.Prelude.{◌≡◌, ◌==◌, ◌<◌, ◌≤◌, ℕ, true, false, None, Some, IfOk, IsSomeAnd, OnErr, OnOk, if◌then◌else◌, is_some};
+ghost use Rattle.std.specs.Prelude.{◌≡◌, ◌==◌, ◌<◌, ℕ, true, false, None, Some, IfOk, IsSomeAnd, OnErr, OnOk, if◌then◌else◌, is_some};
 ghost use Rattle.indexmap.specs.IndexMap.{spare};
 ghost use Rattle.cls_link.specs.Links.{Links};
 ghost use Rattle.sp_behaviours.specs.Behaviours.{op_at};
 ghost use Rattle.sp_behaviours.specs.Follows.{PlaysOn};
 ghost use Rattle.sp_living.specs.Views.{recorded_in};
 ghost use Rattle.sp_rules.specs.Classes.{Setting};
-ghost use Rattle.sp_rules.specs.LivingTasks.{after_steps};
 ghost use Rattle.sp_rules.specs.State.{Living};
 ghost use Rattle.sp_tasks.specs.Behaviours.{op_of};
 ghost use Rattle.vm_act.specs.declared.machine.Machine.{Machine};
@@ -101,21 +100,6 @@ impl<'p> Machines<'p> {
     {
         match self.rows.get_mut(&id) {
             Some(player) => Ok(player.next(alloc)?),
-            None => unreachable!(),
-        }
-    }
-
-    /// Lets the machine of a task, which is level with it, make instructions of its own, so many at most. Returns how
-    /// many it made.
-    pub(crate) fn run(&mut self, id: u64, most: u64) -> u64
-        requires { is_some (machine_at id self.old) ≡ true }
-        ensures level { (links : Links) (g : Setting) (t : Living) → IsLevelAt links g t (machine_at id self.old) → IsLevelAt links g (after_steps result t) (machine_at id self.new) }
-        ensures most { result ≤ most }
-        ensures within { (links : Links) (g : Setting) (t : Living) → IsLevelAt links g t (machine_at id self.old) → result ≤ t.task.fuel }
-        ensures others { (other : ℕ) → (id == other) ≡ false → machine_at other self.new ≡ machine_at other self.old }
-    {
-        match self.rows.get_mut(&id) {
-            Some(player) => player.run(most),
             None => unreachable!(),
         }
     }
