@@ -1,0 +1,4 @@
+mod IdLemmas
+mod EndNotes
+mod EndLemmas
+mod RowLemmas
