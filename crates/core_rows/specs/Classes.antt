@@ -1,10 +1,10 @@
 -- What a class set of one remote class, without methods, tells. (This project's own, for rows of a core.)
 use Rattle.std.specs.Prelude.{◌≡◌, ◌==◌, ℕ, false, List, [], None, map}
 use Rattle.space_ids.specs.declared.ids.ClassId.{ClassId}
-use Rattle.sp_call_classes.specs.ClassSets.{kind_of}
-use Rattle.sp_call_classes.specs.Thrown.{thrown_class}
-use Rattle.sp_call_classes.specs.declared.call_classes.RemoteException.{RemoteException}
-use Rattle.sp_call_classes.specs.declared.class_set.FieldKind.{FieldKind}
+use Rattle.sp_requests.specs.ClassSets.{kind_of}
+use Rattle.sp_requests.specs.Thrown.{thrown_class}
+use Rattle.sp_requests.specs.declared.call_classes.RemoteException.{RemoteException}
+use Rattle.sp_requests.specs.declared.class_set.FieldKind.{FieldKind}
 use Rattle.sp_rules.specs.Classes.{Classes, VoidKind}
 
 -- This class is remote and has these fields, and no other is; what is thrown is of one class.

@@ -2,7 +2,7 @@
 
 ghost use Rattle.core_rows.specs.Classes.{IsOneClass};
 
-use sp_call_classes::{CallClasses, ClassSet, FieldKind, RemoteException, ResultKind};
+use sp_requests::{CallClasses, ClassSet, FieldKind, RemoteException, ResultKind};
 use space_ids::{ClassId, Value};
 use std::alloc::{AllocError, Global};
 

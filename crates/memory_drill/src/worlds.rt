@@ -2,14 +2,14 @@
 //! owed before.
 
 ghost use Rattle.std.specs.Prelude.{IfOk};
-ghost use Rattle.sp_reply_laws.specs.Told.{AreRemoteRules};
+ghost use Rattle.sp_behaviours.specs.Told.{AreRemoteRules};
 
 use super::Tally;
 use super::path::is_want;
 use super::remote::{ADDER, CELL};
 use net_message::Message;
-use sim_spaces::Homes;
-use sim_worlds::{Origin, Played};
+use sim_spaces::ProgramSpaces;
+use sim_worlds::{Origin, ScriptSpace};
 use sp_call_set::CallSet;
 use sp_files::{ClassBytes, Content, Refusal, program_of};
 use sp_tasks::Outcome;
@@ -138,7 +138,7 @@ fn made_program(alloc: Global, files: &[ClassBytes]) -> Result<Program, Refusal>
 }
 
 // The object that the owner has made.
-fn made<S: Played + Drop>(world: &World<S>) -> Result<Value, AllocError> {
+fn made<S: ScriptSpace + Drop>(world: &World<S>) -> Result<Value, AllocError> {
     let shown = world.space(OWNER).and_then(|space| space.object(0));
     match shown {
         Some(shown) => Ok(Value::Ref(Ref {
@@ -158,7 +158,7 @@ fn own(space: usize, event: Event) -> WorldEvent {
     WorldEvent::Own { space, event }
 }
 
-fn root<S: Played + Drop>(
+fn root<S: ScriptSpace + Drop>(
     world: &World<S>,
     space: usize,
     method: &str,
@@ -176,14 +176,17 @@ fn root<S: Played + Drop>(
 }
 
 // The object of the owner, and the array [2].
-fn arguments<S: Played + Drop>(alloc: Global, world: &World<S>) -> Result<Vec<Value>, AllocError> {
+fn arguments<S: ScriptSpace + Drop>(
+    alloc: Global,
+    world: &World<S>,
+) -> Result<Vec<Value>, AllocError> {
     let mut values = Vec::new(alloc);
     values.push(made(world)?)?;
     values.push(Value::Ints(Row::new([2].to_vec(alloc)?)))?;
     Ok(values)
 }
 
-fn event_of<S: Played + Drop>(
+fn event_of<S: ScriptSpace + Drop>(
     alloc: Global,
     act: Act,
     world: &World<S>,
@@ -217,7 +220,7 @@ fn event_of<S: Played + Drop>(
 }
 
 // What follows a run is proved without what it promises.
-fn after<S: Played + Drop>(
+fn after<S: ScriptSpace + Drop>(
     world: World<S>,
     events: &[WorldEvent],
 ) -> Result<World<S>, Unfinished<S>> {
@@ -225,7 +228,11 @@ fn after<S: Played + Drop>(
 }
 
 // Lets an event happen, once more if memory ran out before it was made.
-fn happen<S: Played + Drop>(world: World<S>, event: WorldEvent, tally: &mut Tally) -> World<S> {
+fn happen<S: ScriptSpace + Drop>(
+    world: World<S>,
+    event: WorldEvent,
+    tally: &mut Tally,
+) -> World<S> {
     let events = [event];
     let unfinished = match after(world, &events) {
         Ok(world) => return world,
@@ -241,7 +248,7 @@ fn happen<S: Played + Drop>(world: World<S>, event: WorldEvent, tally: &mut Tall
 }
 
 // The first frame that can come: the accepter's first.
-fn delivery<S: Played + Drop>(world: &World<S>) -> Option<WorldEvent> {
+fn delivery<S: ScriptSpace + Drop>(world: &World<S>) -> Option<WorldEvent> {
     if !world.is_settled() {
         return None;
     }
@@ -262,7 +269,7 @@ fn delivery<S: Played + Drop>(world: &World<S>) -> Option<WorldEvent> {
     None
 }
 
-fn instruction<S: Played + Drop>(world: &World<S>) -> Option<WorldEvent> {
+fn instruction<S: ScriptSpace + Drop>(world: &World<S>) -> Option<WorldEvent> {
     for space in [OWNER, CLIENT] {
         if let Some(task) = world.space(space).and_then(|space| space.ready()) {
             return Some(WorldEvent::Step { space, task });
@@ -272,7 +279,7 @@ fn instruction<S: Played + Drop>(world: &World<S>) -> Option<WorldEvent> {
 }
 
 // The first event that can happen by itself.
-fn next<S: Played + Drop>(world: &World<S>) -> Option<WorldEvent> {
+fn next<S: ScriptSpace + Drop>(world: &World<S>) -> Option<WorldEvent> {
     if !world.is_settled() {
         return None;
     }
@@ -286,7 +293,7 @@ fn next<S: Played + Drop>(world: &World<S>) -> Option<WorldEvent> {
 }
 
 // Lets happen all that can by itself.
-fn settle<S: Played + Drop>(world: World<S>, tally: &mut Tally) -> World<S> {
+fn settle<S: ScriptSpace + Drop>(world: World<S>, tally: &mut Tally) -> World<S> {
     let mut world = world;
     for _ in 0..MOST_EVENTS {
         match next(&world) {
@@ -351,7 +358,7 @@ fn put_row(text: &mut String, row: &[Output]) -> Result<(), AllocError> {
     Ok(())
 }
 
-fn told<S: Played + Drop>(
+fn told<S: ScriptSpace + Drop>(
     alloc: Global,
     world: &World<S>,
     space: usize,
@@ -364,7 +371,7 @@ fn told<S: Played + Drop>(
 }
 
 // Plays the acts in a world of these spaces, and compares what the spaces answer.
-fn play_spaces<S: Played + Drop>(
+fn play_spaces<S: ScriptSpace + Drop>(
     alloc: Global,
     spaces: Vec<S>,
     tally: &mut Tally,
@@ -389,10 +396,10 @@ fn play_program(alloc: Global, program: &Program, tally: &mut Tally) -> Result<(
     requires { AreRemoteRules program.now.classes }
 {
     let classes = CallSet::new(alloc, program)?;
-    let homes = Homes::new(alloc, program, &classes, [7; 32]);
+    let origin = ProgramSpaces::new(alloc, program, &classes, [7; 32]);
     let mut spaces = Vec::new(alloc);
     for space in [OWNER, CLIENT] {
-        spaces.push(homes.space(id(space))?)?;
+        spaces.push(origin.space(id(space))?)?;
     }
     play_spaces(alloc, spaces, tally)
 }

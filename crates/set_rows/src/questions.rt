@@ -1,8 +1,8 @@
 //! What a core that takes calls asks of a program.
 
 use super::links::class_named;
-use sp_call_classes::{CallClasses, ClassSet, FieldKind, RemoteException, ResultKind};
 use sp_call_set::CallSet;
+use sp_requests::{CallClasses, ClassSet, FieldKind, RemoteException, ResultKind};
 use space_ids::{ClassId, Row, Value};
 use std::alloc::{AllocError, Global};
 use std::io::Write;

@@ -2,11 +2,11 @@
 #![tactic(auto)]
 
 pub use digests::class_digest;
-pub use home::Home;
-pub use homes::Homes;
 pub use names::{class_name_of, method_of, shown_as};
+pub use program_space::ProgramSpace;
+pub use program_spaces::ProgramSpaces;
 
 mod digests;
-mod home;
-mod homes;
 mod names;
+mod program_space;
+mod program_spaces;

@@ -4,7 +4,7 @@ ghost use Rattle.std.specs.Prelude.{◌≡◌, ◌⊎◌, None, Some, IfOk};
 ghost use Rattle.cls_set.specs.Classes.{name_at};
 ghost use Rattle.sp_core.specs.Shown as core;
 ghost use Rattle.sp_files.specs.Names.{NamesMethod};
-ghost use Rattle.sim_spaces.specs.Homes.{shown_of};
+ghost use Rattle.sim_spaces.specs.ProgramSpaces.{shown_of};
 
 use sim_worlds::Shown;
 use sp_events::{CoreFault, StartFault};

@@ -1,12 +1,12 @@
 //! Commands, each by what it lets happen.
 
-use crate::player::Player;
-use crate::{PlayFault, Played};
+use crate::script_run::ScriptRun;
+use crate::{PlayFault, ScriptSpace};
 use sim_script::{Between, Command};
 use sp_world::{Dial, End, Event, WorldEvent};
 use space_ids::Row;
 
-impl<S: Played + Drop> Player<S> {
+impl<S: ScriptSpace + Drop> ScriptRun<S> {
     /// Plays the next command after the lines that name spaces. `PlayFault::Bad` for a line that names a
     /// space here, a space or a variable that no line before has named, a second task of one variable; for
     /// a variable without the value that is asked; for an argument that is none; for a root or a look-up

@@ -8,8 +8,8 @@
 #![tactic(auto)]
 
 pub use fault::{PlayFault, ScriptFault};
-pub use played::{Named, Origin, Played, Shown, Start};
 pub use script::play_script;
+pub use script_space::{Named, Origin, ScriptSpace, Shown, Start};
 pub use texts::{SpaceNames, put_object, put_outcome};
 pub use variables::{TaskKey, Variable, Variables, started};
 
@@ -17,9 +17,9 @@ mod commands;
 mod connections;
 mod fault;
 mod names;
-mod played;
-mod player;
 mod script;
+mod script_run;
+mod script_space;
 mod settling;
 mod texts;
 mod variables;

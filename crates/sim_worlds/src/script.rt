@@ -1,14 +1,14 @@
 //! Whole scripts.
 
 use crate::names::Names;
-use crate::player::Player;
-use crate::{Origin, PlayFault, Played, ScriptFault};
+use crate::script_run::ScriptRun;
+use crate::{Origin, PlayFault, ScriptFault, ScriptSpace};
 use sim_script::{Command, read_line};
 use std::alloc::{AllocError, Global};
 
 /// Plays a script over a world of spaces that `origin` makes, and returns the lines that it shows. Its
 /// lines are parted by newlines. `ScriptFault::BadLine` for the first line that is bad.
-pub fn play_script<S: Played + Drop, O: Origin<S>>(
+pub fn play_script<S: ScriptSpace + Drop, O: Origin<S>>(
     alloc: Global,
     origin: &O,
     script: &[u8],
@@ -16,8 +16,8 @@ pub fn play_script<S: Played + Drop, O: Origin<S>>(
     let lines = lines_of(alloc, script)?;
     let mut names = Names::new(alloc);
     let first = read_names(alloc, &lines, &mut names)?;
-    let player = begin(alloc, origin, names)?;
-    play_lines(alloc, player, &lines, first)
+    let script_run = begin(alloc, origin, names)?;
+    play_lines(alloc, script_run, &lines, first)
 }
 
 // The lines of a script, which newlines part.
@@ -58,19 +58,19 @@ fn read_name(alloc: Global, line: &[u8], names: &mut Names) -> Result<bool, Play
 }
 
 // Makes the spaces of these names.
-fn begin<S: Played + Drop, O: Origin<S>>(
+fn begin<S: ScriptSpace + Drop, O: Origin<S>>(
     alloc: Global,
     origin: &O,
     names: Names,
-) -> Result<Player<S>, ScriptFault> {
+) -> Result<ScriptRun<S>, ScriptFault> {
     let spaces = make_spaces(alloc, origin, &names)?;
-    match Player::new(alloc, names, spaces) {
-        Ok(player) => Ok(player),
+    match ScriptRun::new(alloc, names, spaces) {
+        Ok(script_run) => Ok(script_run),
         Err(_) => Err(ScriptFault::Memory),
     }
 }
 
-fn make_spaces<S: Played + Drop, O: Origin<S>>(
+fn make_spaces<S: ScriptSpace + Drop, O: Origin<S>>(
     alloc: Global,
     origin: &O,
     names: &Names,
@@ -89,29 +89,29 @@ fn make_spaces<S: Played + Drop, O: Origin<S>>(
 }
 
 // Plays the lines from this index on, and returns what is shown.
-fn play_lines<S: Played + Drop>(
+fn play_lines<S: ScriptSpace + Drop>(
     alloc: Global,
-    player: Player<S>,
+    script_run: ScriptRun<S>,
     lines: &[&[u8]],
     first: usize,
 ) -> Result<Vec<u8>, ScriptFault> {
-    let mut player = player;
-    play_each(alloc, &mut player, lines, first)?;
-    match player.finish() {
+    let mut script_run = script_run;
+    play_each(alloc, &mut script_run, lines, first)?;
+    match script_run.finish() {
         Ok(text) => Ok(text),
         Err(_) => Err(ScriptFault::Memory),
     }
 }
 
 // Plays the lines from this index on.
-fn play_each<S: Played + Drop>(
+fn play_each<S: ScriptSpace + Drop>(
     alloc: Global,
-    player: &mut Player<S>,
+    script_run: &mut ScriptRun<S>,
     lines: &[&[u8]],
     first: usize,
 ) -> Result<(), ScriptFault> {
     for (before, line) in lines.iter().enumerate().skip(first) {
-        match play_line(alloc, player, line) {
+        match play_line(alloc, script_run, line) {
             Ok(()) => {}
             Err(fault) => return Err(at_line(fault, before + 1)),
         }
@@ -128,13 +128,13 @@ fn read<'a>(alloc: Global, line: &'a [u8]) -> Result<Option<Command<'a>>, PlayFa
 }
 
 // Plays a line.
-fn play_line<S: Played + Drop>(
+fn play_line<S: ScriptSpace + Drop>(
     alloc: Global,
-    player: &mut Player<S>,
+    script_run: &mut ScriptRun<S>,
     line: &[u8],
 ) -> Result<(), PlayFault> {
     match read(alloc, line)? {
-        Some(command) => player.play(&command),
+        Some(command) => script_run.play(&command),
         None => Ok(()),
     }
 }

@@ -1,13 +1,13 @@
 //! What a line `settle` lets happen: all that can.
 
-use crate::player::Player;
-use crate::{PlayFault, Played};
+use crate::script_run::ScriptRun;
+use crate::{PlayFault, ScriptSpace};
 use sp_world::{Dial, End, WorldEvent};
 
 // How many events a line `settle` makes at most.
 const MOST_EVENTS: usize = 100_000;
 
-impl<S: Played + Drop> Player<S> {
+impl<S: ScriptSpace + Drop> ScriptRun<S> {
     // Lets happen what can, at most 100,000 events. Each is the first possible of these: a dial that waits
     // is opened, as they were asked; a connection is accepted; a frame comes to an end of a connection, by
     // connections, and to the space that was dialled first; the lowest space that can lets its lowest task

@@ -68,7 +68,7 @@ use Rattle.vm_code.specs.Ints.{binary, if_compare, if_zero, push_result, unary}
 use Rattle.vm_code.specs.Methods.{callee_of, chosen, init_begins_uninit, interface_selected, is_init, object_of, selected_of, special_start}
 use Rattle.vm_code.specs.Parameters.{parameters_of}
 use Rattle.vm_code.specs.Operators.{binary_result, condition_holds, unary_result}
-use Rattle.vm_rows.specs.Steps as rows
+use Rattle.vm_laws.specs.Steps as rows
 use Rattle.vm_step.specs.Steps as insns
 use Rattle.vm_step.specs.Steps.{crossing}
 use Rattle.sp_rules.specs.References.{is_reference_in, is_same_reference}

@@ -19,7 +19,7 @@ use Rattle.vm_act.specs.Next.{Next, On, Ends, Asks, Stuck}
 use Rattle.vm_act.specs.declared.asked.Asked.{Asked}
 use Rattle.vm_act.specs.declared.asked.Asked.TheVariants as asked
 use Rattle.vm_heap.specs.References.{Table}
-use Rattle.vm_rows.specs.Steps.{insn_at}
+use Rattle.vm_laws.specs.Steps.{insn_at}
 use Rattle.vm_step.specs.Steps as insns
 use Rattle.vm_step.specs.Run.{State, Running, Waits, Over, Lost, IsNeverStuck}
 use Rattle.vm_step.specs.Task.{fuel_left}

@@ -1,3 +1,15 @@
 pub mod Behaviours
 pub mod Follows
 pub mod Laws
+pub mod Classes
+pub mod Fields
+pub mod Kinds
+pub mod Receiving
+pub mod Remote
+pub mod Starts
+pub mod Calls
+pub mod Replies
+pub mod Sets
+pub mod ReplyStarts
+pub mod Stores
+pub mod Told

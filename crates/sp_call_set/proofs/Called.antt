@@ -8,7 +8,7 @@ use Rattle.cls_link.specs.Links.{Declared, declared_methods}
 use Rattle.cls_search.specs.MethodSearches.{is_interface}
 use Rattle.cls_set.specs.declared.class.Class.{Class}
 use Rattle.space_ids.specs.declared.ids.ClassId.{ClassId}
-use Rattle.sp_classes.specs.Remote.{gives_method, may_call}
+use Rattle.sp_behaviours.specs.Remote.{gives_method, may_call}
 use Rattle.sp_rules.specs.Lists.{numbers_below}
 use Rattle.vm_code.specs.Classes.{is_subtype}
 use Rattle.vm_code.specs.Classes.{is_remote_interface}

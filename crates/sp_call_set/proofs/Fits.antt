@@ -8,7 +8,7 @@ use Rattle.cf_text.specs.declared.types.FieldType.{FieldType}
 use Rattle.cls_link.specs.Links.{method_at}
 use Rattle.cls_set.specs.declared.class.Class.{Class}
 use Rattle.space_ids.specs.declared.value.Value.{Value}
-use Rattle.sp_classes.specs.Kinds.{kind_of_type, parameters_of, result_kind, result_of}
+use Rattle.sp_behaviours.specs.Kinds.{kind_of_type, parameters_of, result_kind, result_of}
 use Rattle.sp_requests.specs.Asking.{kind_of}
 use Rattle.sp_requests.specs.declared.asked.ResultKind.{ResultKind}
 use Rattle.sp_rules.specs.Classes.{fit_kinds, fits_kind}

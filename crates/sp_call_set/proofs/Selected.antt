@@ -8,7 +8,7 @@ use Rattle.cls_link.specs.Links.{Declared, declared_methods, method_at}
 use Rattle.cls_link.specs.declared.linked_code.MethodId.{MethodId}
 use Rattle.cls_set.specs.declared.class.Class.{Class}
 use Rattle.space_ids.specs.declared.ids.ClassId.{ClassId}
-use Rattle.sp_classes.specs.Remote.{method_of, selected_by}
+use Rattle.sp_behaviours.specs.Remote.{method_of, selected_by}
 use Rattle.vm_act.specs.declared.calls.Selected.TheVariants as selected
 use Rattle.vm_code.specs.Classes.{is_subtype}
 use Rattle.vm_code.specs.Methods.{callee_of, callee_with, chosen, interface_selected, is_public_at, public_one, selection_of, words_passed}

@@ -6,11 +6,11 @@ use Rattle.cls_link.specs.Links.{Links}
 use Rattle.cls_set.specs.Classes.{number_of}
 use Rattle.cls_set.specs.declared.class.Class.{Class}
 use Rattle.space_ids.specs.declared.ids.ClassId.{ClassId}
-use Rattle.sp_call_classes.specs.Thrown.{thrown_class}
-use Rattle.sp_call_classes.specs.declared.call_classes.RemoteException.{RemoteException}
-use Rattle.sp_call_classes.specs.declared.call_classes.RemoteException.TheVariants as exception
-use Rattle.sp_classes.proofs.Told.{named_is}
-use Rattle.sp_classes.specs.Classes.{class_named, classes_of, is_below}
+use Rattle.sp_requests.specs.Thrown.{thrown_class}
+use Rattle.sp_requests.specs.declared.call_classes.RemoteException.{RemoteException}
+use Rattle.sp_requests.specs.declared.call_classes.RemoteException.TheVariants as exception
+use Rattle.sp_behaviours.proofs.Told.{named_is}
+use Rattle.sp_behaviours.specs.Classes.{class_named, classes_of, is_below}
 use Rattle.sp_rules.specs.Classes.{Classes, told_class}
 use Rattle.vm_code.specs.Classes.{is_subtype}
 use Rattle.sp_call_set.specs.Named.{AreNamed, number_in, told_in}

@@ -1,4 +1,4 @@
--- Which methods may be called on objects of which classes, in the parts in which it is looked for. (`may_call` of sp_classes is the rule.)
+-- Which methods may be called on objects of which classes, in the parts in which it is looked for. (`may_call` of sp_behaviours is the rule.)
 use Rattle.std.specs.Prelude.{ℕ, Bool, not, ◌&&◌, List, filter, length, map}
 use Rattle.std.specs.List.{list_any}
 use Rattle.cf_reader.specs.declared.class_file.Method.{Method}

@@ -4,8 +4,8 @@ use Rattle.std.specs.Prelude.{◌≡◌, Some, List, codes, if◌then◌else◌}
 use Rattle.cls_set.specs.Classes.{number_of}
 use Rattle.cls_set.specs.declared.class.Class.{Class}
 use Rattle.space_ids.specs.declared.ids.ClassId.{ClassId}
-use Rattle.sp_call_classes.specs.declared.call_classes.RemoteException.{RemoteException}
-use Rattle.sp_call_classes.specs.declared.call_classes.RemoteException.TheVariants as exception
+use Rattle.sp_requests.specs.declared.call_classes.RemoteException.{RemoteException}
+use Rattle.sp_requests.specs.declared.call_classes.RemoteException.TheVariants as exception
 use Rattle.sp_call_set.specs.declared.named.NamedClasses.{NamedClasses}
 use Rattle.vm_code.specs.Classes.{is_subtype}
 

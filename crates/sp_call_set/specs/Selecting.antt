@@ -1,4 +1,4 @@
--- The number of a method that a call runs. (`selected_by` of sp_classes is the rule.)
+-- The number of a method that a call runs. (`selected_by` of sp_behaviours is the rule.)
 use Rattle.std.specs.Prelude.{ℕ, Bool, false, ◌&&◌, nat_le, Option, Some, None, List, if◌then◌else◌}
 use Rattle.std.specs.Option.{option_map_or}
 use Rattle.cf_reader.specs.declared.class_file.Code.{Code}

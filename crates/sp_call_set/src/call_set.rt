@@ -5,8 +5,8 @@ use crate::kinds::{result_kind, takes};
 use crate::named::NamedClasses;
 use crate::selecting::selected;
 use cls_tables::Tables;
-use sp_call_classes::{CallClasses, ClassSet, FieldKind, RemoteException, ResultKind};
-use sp_classes::SpaceClasses;
+use sp_behaviours::SpaceClasses;
+use sp_requests::{CallClasses, ClassSet, FieldKind, RemoteException, ResultKind};
 use space_ids::{ClassId, Value};
 use std::alloc::{AllocError, Global};
 use std::marker::Model;
@@ -63,7 +63,7 @@ impl<'a> CallSet<'a> {
 // What a core asks that takes no calls.
 impl<'a> ClassSet for CallSet<'a> {
     ghost use Rattle.std.specs.Prelude.{◌≡◌};
-    ghost use Rattle.sp_classes.specs.Classes.{classes_of};
+    ghost use Rattle.sp_behaviours.specs.Classes.{classes_of};
 
     // It tells what the rules of spaces ask of the linked set.
     ghost tells = { λ set c. c ≡ classes_of set };

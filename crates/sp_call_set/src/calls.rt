@@ -4,7 +4,7 @@ ghost use Rattle.std.specs.Prelude.{◌≡◌, ◌++◌, [], ◌∷◌, Some, tr
 ghost use Rattle.std.specs.List.{list_any};
 ghost use Rattle.cls_search.specs.MethodSearches.{is_interface};
 ghost use Rattle.cls_set.specs.Classes.{number_of};
-ghost use Rattle.sp_classes.specs.Remote.{may_call};
+ghost use Rattle.sp_behaviours.specs.Remote.{may_call};
 ghost use Rattle.vm_code.specs.Classes.{is_remote_interface};
 ghost use Rattle.sp_call_set.specs.Calls.{is_given, is_inherited, is_of_objects, leads_to, remote_interfaces};
 

@@ -4,13 +4,13 @@ ghost use Rattle.std.specs.Prelude.{◌≡◌, map, option_map};
 ghost use Rattle.cls_link.specs.Links.{method_at};
 ghost use Rattle.vm_code.specs.Parameters.{is_array_type};
 ghost use Rattle.vm_step.specs.Start.{is_int_type};
-ghost use Rattle.sp_classes.specs.Kinds.{kind_of_type, parameters_of, result_of};
-ghost use Rattle.sp_classes.specs.Kinds as kinds;
+ghost use Rattle.sp_behaviours.specs.Kinds.{kind_of_type, parameters_of, result_of};
+ghost use Rattle.sp_behaviours.specs.Kinds as kinds;
 ghost use Rattle.sp_requests.specs.Asking.{kind_of};
 ghost use Rattle.sp_rules.specs.Classes.{fit_kinds, fits_kind};
 
 use cls_link::{ElementType, FieldType, Method, Parameters, Shared};
-use sp_call_classes::ResultKind;
+use sp_requests::ResultKind;
 use space_ids::Value;
 use vm_step::{MethodId, Program};
 

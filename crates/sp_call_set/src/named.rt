@@ -5,7 +5,7 @@ ghost use Rattle.cls_set.specs.Classes.{number_of};
 ghost use Rattle.sp_call_set.specs.Named.{number_in, told_in, AreNamed};
 
 use cls_link::{ClassSet, Linked};
-use sp_call_classes::RemoteException;
+use sp_requests::RemoteException;
 use space_ids::ClassId;
 use vm_code::is_subtype;
 

@@ -1,7 +1,7 @@
 //! The methods that calls of other spaces run.
 
 ghost use Rattle.std.specs.Prelude.{◌≡◌, ◌<◌, IfSome, length, nat_le};
-ghost use Rattle.sp_classes.specs.Remote.{method_of, selected_by};
+ghost use Rattle.sp_behaviours.specs.Remote.{method_of, selected_by};
 ghost use Rattle.vm_code.specs.Methods.{interface_selected, is_public_at, selection_of, words_passed};
 ghost use Rattle.sp_call_set.specs.Selecting.{has_code, run_by};
 

@@ -11,11 +11,11 @@ ghost use Rattle.sp_tasks.specs.Lent.{KeepsLent, LendsNoMore, LendsToo};
 ghost use Rattle.sp_tasks.specs.Rows.{at_row, back_row, lent_row};
 
 use boxed_value::Boxed;
-use sp_call_classes::CallClasses;
 use sp_events::{Event, Root};
 use sp_living::Living;
 use sp_outputs::Output;
 use sp_owner::Owner;
+use sp_requests::CallClasses;
 use sp_state::SpaceState;
 use sp_tasks::LentTask;
 use std::alloc::{AllocError, Global};

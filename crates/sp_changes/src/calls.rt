@@ -14,8 +14,8 @@ ghost use Rattle.sp_state.specs.Spaces.{IsAtRest, IsSpace};
 ghost use Rattle.sp_tasks.specs.Lent.{LendsNoMore};
 
 use crate::{BoxedState, let_go};
-use sp_call_classes::CallClasses;
 use sp_outputs::Output;
+use sp_requests::CallClasses;
 use sp_tasks::LentTask;
 use space_ids::{Ref, Row, Value};
 use std::alloc::AllocError;

@@ -12,7 +12,7 @@ ghost use Rattle.sp_tasks.specs.Lent.{KeepsLent};
 ghost use Rattle.sp_tasks.specs.Rows.{replied_hand};
 
 use crate::{BoxedState, let_go};
-use sp_call_classes::CallClasses;
+use sp_requests::CallClasses;
 use sp_tasks::{LentTask, Op, Reply, copy_reply};
 use std::alloc::{AllocError, Global};
 

@@ -14,8 +14,8 @@ ghost use Rattle.sp_tasks.specs.Behaviours.{outcome_of};
 ghost use Rattle.sp_tasks.specs.Lent.{LendsNoMore};
 
 use crate::{BoxedState, let_go};
-use sp_call_classes::CallClasses;
 use sp_outputs::Output;
+use sp_requests::CallClasses;
 use sp_tasks::{LentTask, Outcome};
 use std::alloc::AllocError;
 

@@ -10,8 +10,8 @@ ghost use Rattle.sp_state.specs.Spaces.{IsAtRest, IsSpace};
 ghost use Rattle.sp_tasks.specs.Lent.{KeepsLent};
 
 use crate::BoxedState;
-use sp_call_classes::CallClasses;
 use sp_events::{Event, Root};
+use sp_requests::CallClasses;
 
 /// Lets a state go. At each place that lets one go by itself, all of which a state is made of is proved anew.
 pub fn let_go(space: BoxedState) {

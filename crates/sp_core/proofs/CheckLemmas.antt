@@ -2,8 +2,8 @@
 use Rattle.std.proofs.Common.{◌≡◌, ℕ, Bool, true, false, cond, List, [], ◌∷◌, ◌++◌, Option, None, Some, refl, sym, ap, ◌∙◌, map}
 use Rattle.std.specs.Prelude.{not, nat_le, ◌^◌, ◌&&◌, ◌||◌, option_and_then, option_map, is_some, ◌==◌}
 use Rattle.std.specs.List.{list_any}
-use Rattle.sp_connections.specs.declared.connection.Link.{Link}
-use Rattle.sp_connections.specs.declared.connection.Link.TheVariants as link
+use Rattle.sp_requests.specs.declared.connection.Link.{Link}
+use Rattle.sp_requests.specs.declared.connection.Link.TheVariants as link
 use Rattle.dgc_client.specs.Table as client
 use Rattle.sp_events.specs.Events.{event_of}
 use Rattle.sp_events.specs.FaultNames.{Refuses, RefusesOrLacks, core_fault_number}
@@ -12,7 +12,7 @@ use Rattle.sp_events.specs.declared.event.Event.TheVariants as event
 use Rattle.sp_events.specs.declared.fault.CoreFault.{CoreFault}
 use Rattle.sp_events.specs.declared.fault.CoreFault.TheVariants as fault
 use Rattle.space_ids.specs.declared.value.Value.{Value}
-use Rattle.sp_call_results.specs.Held.{is_of_call, of_roots}
+use Rattle.sp_results.specs.Held.{is_of_call, of_roots}
 use Rattle.sp_living.specs.Views.{kept}
 use Rattle.sp_results.specs.Waiting.{is_waiting}
 use Rattle.sp_rules.specs.OwnEvents.{is_of_root}

@@ -11,8 +11,8 @@ use Rattle.sp_rules.specs.Space.{happen, on}
 use Rattle.sp_rules.specs.LivingTasks.{commit, give_back}
 use Rattle.sp_rules.specs.State.{State, Object, task_at}
 use Rattle.sp_tasks.specs.Rows.{Hand}
-use Rattle.sp_call_classes.specs.ClassSets.{kind_of}
-use Rattle.sp_call_classes.specs.declared.class_set.FieldKind.{FieldKind}
+use Rattle.sp_requests.specs.ClassSets.{kind_of}
+use Rattle.sp_requests.specs.declared.class_set.FieldKind.{FieldKind}
 use Rattle.sp_core.specs.Cores.{IsCore, Lends, lends, lent_as}
 use Rattle.sp_core.specs.declared.space_core.SpaceCore.{SpaceCore}
 use Rattle.sp_core.proofs.HandLemmas.{hand-number}

@@ -1,7 +1,7 @@
 //! Why events of lent tasks are refused.
 
 ghost use Rattle.std.specs.Prelude.{◌≡◌, ◌&&◌, ℕ, List, None, Some, false, true, IfErr, IfOk, OnOk, option_and_then, option_map};
-ghost use Rattle.sp_call_classes.specs.ClassSets.{kind_of};
+ghost use Rattle.sp_requests.specs.ClassSets.{kind_of};
 ghost use Rattle.sp_events.specs.FaultNames.{Refuses, core_fault_number};
 ghost use Rattle.sp_living.specs.Hands.{StandsAt};
 ghost use Rattle.sp_rules.specs.Behaviours.{Op as Asked};
@@ -17,8 +17,8 @@ ghost use Rattle.sp_rules.specs.Tasks.{AsksFor, HasEnded};
 ghost use Rattle.sp_core.specs.Hands.{committed, finished, is_on_store, parked};
 
 use crate::{LentTask, SpaceCore};
-use sp_call_classes::{CallClasses, ClassSet, FieldKind};
 use sp_events::CoreFault;
+use sp_requests::{CallClasses, ClassSet, FieldKind};
 use sp_tasks::{Op, Outcome, Stand};
 use space_ids::{ObjId, Value};
 

@@ -16,9 +16,9 @@ ghost use Rattle.sp_tasks.specs.Rows.{replied_hand};
 ghost use Rattle.sp_core.specs.Hands.{IsSecond, committed, fits};
 
 use crate::{LentTask, SpaceCore};
-use sp_call_classes::CallClasses;
 use sp_changes::{BoxedState, commit_in, commit_too, let_go};
 use sp_events::CoreFault;
+use sp_requests::CallClasses;
 use sp_tasks::{LentTask as TaskInHand, Op, Reply, Stand};
 use std::alloc::AllocError;
 use std::mem;

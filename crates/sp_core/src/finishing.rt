@@ -15,11 +15,11 @@ ghost use Rattle.sp_tasks.specs.Behaviours.{outcome_of, stand_of};
 ghost use Rattle.sp_core.specs.Hands.{HasFuel, finished};
 
 use crate::{LentTask, SpaceCore};
-use sp_call_classes::CallClasses;
 use sp_changes::{finish_in, finish_too, let_go};
 use sp_events::CoreFault;
 use sp_holders::CallKey;
 use sp_outputs::Output;
+use sp_requests::CallClasses;
 use sp_tasks::{Origin, Outcome, Stand, copy_outcome};
 use space_ids::Value;
 use std::alloc::AllocError;

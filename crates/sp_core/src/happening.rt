@@ -13,11 +13,10 @@ ghost use Rattle.sp_rules.specs.State.{State};
 ghost use Rattle.sp_state.specs.LetIn.{IsLetIn};
 
 use crate::SpaceCore;
-use sp_call_classes::CallClasses;
 use sp_changes::{follow, let_go};
-use sp_event_copies::copy_event;
-use sp_events::{CoreFault, Event};
+use sp_events::{CoreFault, Event, copy_event};
 use sp_outputs::Output;
+use sp_requests::CallClasses;
 use std::alloc::AllocError;
 use std::mem;
 

@@ -7,9 +7,9 @@
 
 pub use lent_task::LentTask;
 pub use shown::Shown;
-pub use sp_call_classes::{CallClasses, ClassSet, FieldKind, RemoteException, ResultKind};
 pub use sp_events::{CoreFault, Event, Root, StartFault};
 pub use sp_outputs::Output;
+pub use sp_requests::{CallClasses, ClassSet, FieldKind, RemoteException, ResultKind};
 pub use sp_tasks::{Op, Outcome, Record, Reply, Stand};
 pub use space_core::SpaceCore;
 

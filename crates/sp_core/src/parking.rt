@@ -16,10 +16,10 @@ ghost use Rattle.sp_tasks.specs.Behaviours.{op_of};
 ghost use Rattle.sp_core.specs.Hands.{HasFuel, is_on_store, parked};
 
 use crate::{LentTask, SpaceCore};
-use sp_call_classes::CallClasses;
 use sp_changes::{Call, let_go, park_in, park_too};
 use sp_events::CoreFault;
 use sp_outputs::Output;
+use sp_requests::CallClasses;
 use sp_tasks::{Op, Stand};
 use space_ids::Row;
 use std::alloc::{AllocError, Global};

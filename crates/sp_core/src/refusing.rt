@@ -11,8 +11,8 @@ ghost use Rattle.sp_rules.specs.State.{State, is_dialling, is_open};
 
 use crate::SpaceCore;
 use crate::space_core::END;
-use sp_connections::Link;
 use sp_events::{CoreFault, Event};
+use sp_requests::Link;
 use space_ids::Uuid;
 
 impl SpaceCore {

@@ -2,8 +2,8 @@
 use Rattle.std.proofs.Common.{◌≡◌, ℕ, Bool, true, false, Option, None, Some, refl, sym, ◌∙◌, true≢false}
 use Rattle.std.specs.Prelude.{find, is_some, option_map}
 use Rattle.dgc_client.specs.History as lease_events
-use Rattle.sp_connections.specs.Tables.{seen}
-use Rattle.sp_connections.specs.declared.connection.Connection.{Connection as Shown}
+use Rattle.sp_requests.specs.Tables.{seen}
+use Rattle.sp_requests.specs.declared.connection.Connection.{Connection as Shown}
 use Rattle.sp_rules.specs.Classes.{Setting}
 use Rattle.sp_rules.specs.Endings.{close}
 use Rattle.sp_rules.specs.Frames.{group_told, tells_on, told_by}

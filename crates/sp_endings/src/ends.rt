@@ -1,7 +1,7 @@
 //! Connections that end, peers that refuse, and what was asked on them.
 
 ghost use Rattle.std.specs.Prelude.{◌≡◌, ◌==◌, ℕ, List, [], OnOk, filter, true};
-ghost use Rattle.sp_call_classes.specs.Thrown.{thrown_class};
+ghost use Rattle.sp_requests.specs.Thrown.{thrown_class};
 ghost use Rattle.sp_endings.specs.Ends.{AreThrown, end_call, end_each, fail_out};
 ghost use Rattle.sp_living.specs.Livings.{IsLiving};
 ghost use Rattle.sp_rules.specs.Classes.{Setting};
@@ -15,10 +15,9 @@ ghost use Rattle.space_ids.specs.declared.ids.ClassId.{ClassId as Class};
 
 use crate::failing::fail_group;
 use crate::thrown::Thrown;
-use sp_call_classes::{CallClasses, RemoteException};
 use sp_living::Living;
 use sp_outputs::Output;
-use sp_requests::{Ended, EndedCall, OutGroup};
+use sp_requests::{CallClasses, Ended, EndedCall, OutGroup, RemoteException};
 use sp_tasks::Reply;
 use space_ids::Uuid;
 use std::alloc::AllocError;

@@ -12,8 +12,8 @@ ghost use Rattle.sp_tasks.specs.Lent.{KeepsLent};
 
 use crate::passing::give_up;
 use dgc_client::{Due, Group};
-use sp_call_classes::CallClasses;
 use sp_living::Living;
+use sp_requests::CallClasses;
 use space_ids::ForeignId;
 use std::alloc::AllocError;
 

@@ -14,9 +14,9 @@ ghost use Rattle.sp_store.specs.Stores.{IsAfter};
 ghost use Rattle.sp_tasks.specs.Lent.{KeepsLent};
 
 use crate::passing::pass_on;
-use sp_call_classes::CallClasses;
 use sp_living::Living;
 use sp_parked::ParkedFrame;
+use sp_requests::CallClasses;
 use sp_store::Store;
 use std::alloc::AllocError;
 

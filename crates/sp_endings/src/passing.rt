@@ -15,10 +15,10 @@ ghost use Rattle.sp_store.specs.Stores.{IsAfter};
 ghost use Rattle.sp_tasks.specs.Lent.{KeepsLent};
 
 use net_message::Message;
-use sp_call_classes::{CallClasses, RemoteException};
 use sp_living::Living;
 use sp_outputs::Turn;
 use sp_parked::{Frame, ParkedCall, ParkedFrame};
+use sp_requests::{CallClasses, RemoteException};
 use sp_store::Store;
 use sp_tasks::{Origin, Reply};
 use space_ids::{ClassId, ObjId, Ref, Value};

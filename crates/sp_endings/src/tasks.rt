@@ -11,9 +11,9 @@ ghost use Rattle.sp_tasks.specs.Behaviours.{origin_of, outcome_of};
 ghost use Rattle.sp_tasks.specs.Lent.{KeepsLent, LendsNoMore};
 
 use net_message::Message;
-use sp_call_classes::CallClasses;
 use sp_living::Living;
 use sp_outputs::{Output, Turn};
+use sp_requests::CallClasses;
 use sp_tasks::{LentTask, Origin, Outcome, copy_outcome};
 use std::alloc::{AllocError, Global};
 

@@ -12,8 +12,8 @@ ghost use Rattle.uuid.specs.declared.Uuid.{Uuid as Peer};
 
 use crate::ends::close;
 use crate::frames::go_all;
-use sp_call_classes::{CallClasses, RemoteException};
 use sp_living::Living;
+use sp_requests::{CallClasses, RemoteException};
 use sp_store::Store;
 use std::alloc::AllocError;
 

@@ -18,17 +18,17 @@ use Rattle.sp_rules.proofs.AllLemmas.{some-none}
 use Rattle.sp_rules.proofs.OwnLemmas.{some-same, has-some}
 use Rattle.sp_laws.specs.Inbound.{opened}
 use Rattle.sp_laws.specs.Others.{HasTwoEnds}
-use Rattle.sp_hello_laws.specs.Hellos.{BeginsWithHello, BeginsWelcome, NoHellos, BeginsInOrder}
-use Rattle.sp_world_laws.specs.Delivered.{came_on, sent_on}
-use Rattle.sp_world_laws.specs.Ends.{IsOneOf}
+use Rattle.sp_order_laws.specs.Hellos.{BeginsWithHello, BeginsWelcome, NoHellos, BeginsInOrder}
+use Rattle.sp_order_laws.specs.Delivered.{came_on, sent_on}
+use Rattle.sp_order_laws.specs.Ends.{IsOneOf}
 use Rattle.sp_order_laws.specs.Places.{IsBetween}
 use Rattle.sp_order_laws.proofs.WorldFacts.{at-all}
-use Rattle.sp_answer_laws.specs.Unbroken.{ends_at, IsJoined}
-use Rattle.sp_answer_laws.specs.Welcome.{is_welcome_first, is_welcome_later}
-use Rattle.sp_answer_laws.proofs.TimeLemmas.{Given}
-use Rattle.sp_answer_laws.proofs.WelcomeFrames.{setting-at, dialler-row, is-welcome}
-use Rattle.sp_answer_laws.proofs.WelcomeLemmas.{Facts, ends-of, of-there, one-left}
-use Rattle.sp_kept_laws.specs.Reaches.{IsFirstTo}
+use Rattle.sp_order_laws.specs.Unbroken.{ends_at, IsJoined}
+use Rattle.sp_order_laws.specs.Welcome.{is_welcome_first, is_welcome_later}
+use Rattle.sp_order_laws.proofs.TimeLemmas.{Given}
+use Rattle.sp_order_laws.proofs.WelcomeFrames.{setting-at, dialler-row, is-welcome}
+use Rattle.sp_order_laws.proofs.WelcomeLemmas.{Facts, ends-of, of-there, one-left}
+use Rattle.sp_held_laws.specs.Reaches.{IsFirstTo}
 
 -- ---- ids
 
@@ -103,7 +103,7 @@ own-hello s conn version client digest k o = by (opened conn s.history) refl
 
     none : (ms : List Message) → NoHellos ms → IsOneOf (message.Hello version client digest) ms → ⊥
     none [] a i = i
-    none (m ∷ ms) a (inl e) = true≢false (ap Rattle.sp_frame_laws.specs.Sent.is_hello e ∙ a.0)
+    none (m ∷ ms) a (inl e) = true≢false (ap Rattle.sp_laws.specs.Sent.is_hello e ∙ a.0)
     none (m ∷ ms) a (inr i) = none ms a.1 i
 
     first : (ms : List Message) → BeginsWithHello s.setting ms → IsOneOf (message.Hello version client digest) ms

@@ -19,23 +19,23 @@ use Rattle.sp_rules.specs.Worlds.{World, Space, Pipe, Dialler, Accepter, grown}
 use Rattle.sp_rules.proofs.AllLemmas.{some-none}
 use Rattle.sp_rules.proofs.OwnLemmas.{some-same}
 use Rattle.sp_laws.specs.Inbound.{OpensOnce}
-use Rattle.sp_call_laws.specs.Directions.{HasDirections}
-use Rattle.sp_world_laws.specs.Delivered.{came_on, sent_on, frame_in, outputs_at, outputs_in, IsEnd}
-use Rattle.sp_world_laws.specs.Ends.{IsOneOf}
+use Rattle.sp_laws.specs.Directions.{HasDirections}
+use Rattle.sp_order_laws.specs.Delivered.{came_on, sent_on, frame_in, outputs_at, outputs_in, IsEnd}
+use Rattle.sp_order_laws.specs.Ends.{IsOneOf}
 use Rattle.sp_order_laws.specs.Places.{IsBetween}
 use Rattle.sp_order_laws.specs.Rising.{sequence_in, sequence_numbers, frame, frames_in}
 use Rattle.sp_order_laws.proofs.NoteLemmas.{flat-append, rises-below}
 use Rattle.sp_order_laws.proofs.WorldFacts.{Known, at-all}
-use Rattle.sp_answer_laws.specs.Unbroken.{IsJoined}
-use Rattle.sp_answer_laws.proofs.TimeLemmas.{has-on}
-use Rattle.sp_answer_laws.proofs.UnbrokenLaws.{came-now}
-use Rattle.sp_answer_laws.proofs.WelcomeFrames.{not-dialled}
-use Rattle.sp_answer_laws.proofs.WelcomeLemmas.{Facts, ends-of, of-there, one-some, one-left, one-right, went, opened-as, dials-at}
-use Rattle.sp_kept_laws.specs.Granted.{is_granted}
-use Rattle.sp_kept_laws.specs.Reaches.{grown_by, IsSilent}
-use Rattle.sp_kept_laws.specs.Steps.{BringsLease, StaysAsked}
-use Rattle.sp_kept_laws.proofs.AskedLemmas.{in-flat-of}
-use Rattle.sp_kept_laws.proofs.CleanLaws.{counts-naming}
+use Rattle.sp_order_laws.specs.Unbroken.{IsJoined}
+use Rattle.sp_order_laws.proofs.TimeLemmas.{has-on}
+use Rattle.sp_order_laws.proofs.UnbrokenLaws.{came-now}
+use Rattle.sp_order_laws.proofs.WelcomeFrames.{not-dialled}
+use Rattle.sp_order_laws.proofs.WelcomeLemmas.{Facts, ends-of, of-there, one-some, one-left, one-right, went, opened-as, dials-at}
+use Rattle.sp_held_laws.specs.Granted.{is_granted}
+use Rattle.sp_held_laws.specs.Reaches.{grown_by, IsSilent}
+use Rattle.sp_held_laws.specs.Steps.{BringsLease, StaysAsked}
+use Rattle.sp_held_laws.proofs.AskedLemmas.{in-flat-of}
+use Rattle.sp_held_laws.proofs.CleanLaws.{counts-naming}
 use Rattle.sp_held_laws.specs.Entries.{IsDirtyOut}
 use Rattle.sp_held_laws.proofs.BetweenLemmas.{Between, between-of}
 use Rattle.sp_held_laws.proofs.GivenLaws.{Below, opened-to}

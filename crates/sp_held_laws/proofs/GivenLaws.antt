@@ -12,23 +12,23 @@ use Rattle.sp_rules.specs.Worlds.{World, Space, WorldEvent, run, new_world}
 use Rattle.sp_rules.proofs.OwnLemmas.{own_references_stand}
 use Rattle.sp_laws.specs.Counted.{times_held}
 use Rattle.sp_laws.specs.Inbound.{OpensOnce}
-use Rattle.sp_lease_laws.specs.MadeWhenDue.{CallsAreMadeWhenDue}
-use Rattle.sp_lease_laws.specs.OnTheWay.{CallsOnTheirWayAreRequests}
-use Rattle.sp_world_laws.specs.Ends.{IsOneOf}
+use Rattle.sp_laws.specs.MadeWhenDue.{CallsAreMadeWhenDue}
+use Rattle.sp_laws.specs.OnTheWay.{CallsOnTheirWayAreRequests}
+use Rattle.sp_order_laws.specs.Ends.{IsOneOf}
 use Rattle.sp_order_laws.specs.Rising.{SequenceNumbersRise}
 use Rattle.sp_order_laws.proofs.WorldFacts.{Known}
-use Rattle.sp_answer_laws.specs.InTime.{ComeInTimeIn, CallsComeInTime}
-use Rattle.sp_answer_laws.specs.RequestOrder.{CallsKeepTheirOrder}
-use Rattle.sp_answer_laws.specs.Senders.{SendersHoldIn, SendersHold}
-use Rattle.sp_answer_laws.specs.Unbroken.{AreOfOneKind, NothingFails}
-use Rattle.sp_answer_laws.proofs.TimeLemmas.{Given}
-use Rattle.sp_answer_laws.proofs.UnbrokenLaws.{Laws}
-use Rattle.sp_kept_laws.specs.Granted.{is_granted, awaited_of, HeldIsGranted, WhatIsHeldIsGranted, DirtyCallsAreAwaited}
-use Rattle.sp_kept_laws.specs.Reaches.{EventsReachOneSpace}
-use Rattle.sp_kept_laws.specs.Secure.{NoCleanOnItsWay, GrantedReferencesStaySecure}
-use Rattle.sp_kept_laws.specs.Steps.{OnlyLeasesGrant, WhatIsOutStaysAsked, EntriesStayUntilCleaned, DirtyCallsSetEntries}
-use Rattle.sp_kept_laws.proofs.CleanLaws.{Kept, kept-of, peer-of, dialled-to}
-use Rattle.sp_kept_laws.proofs.SecureLaws.{given-of}
+use Rattle.sp_order_laws.specs.InTime.{ComeInTimeIn, CallsComeInTime}
+use Rattle.sp_order_laws.specs.RequestOrder.{CallsKeepTheirOrder}
+use Rattle.sp_order_laws.specs.Senders.{SendersHoldIn, SendersHold}
+use Rattle.sp_order_laws.specs.Unbroken.{AreOfOneKind, NothingFails}
+use Rattle.sp_order_laws.proofs.TimeLemmas.{Given}
+use Rattle.sp_order_laws.proofs.UnbrokenLaws.{Laws}
+use Rattle.sp_held_laws.specs.Granted.{is_granted, awaited_of, HeldIsGranted, WhatIsHeldIsGranted, DirtyCallsAreAwaited}
+use Rattle.sp_held_laws.specs.Reaches.{EventsReachOneSpace}
+use Rattle.sp_held_laws.specs.Secure.{NoCleanOnItsWay, GrantedReferencesStaySecure}
+use Rattle.sp_held_laws.specs.Steps.{OnlyLeasesGrant, WhatIsOutStaysAsked, EntriesStayUntilCleaned, DirtyCallsSetEntries}
+use Rattle.sp_held_laws.proofs.CleanLaws.{Kept, kept-of, peer-of, dialled-to}
+use Rattle.sp_held_laws.proofs.SecureLaws.{given-of}
 use Rattle.sp_held_laws.specs.Entries.{IsDirtyOut}
 
 pub record Below : Type 0 where

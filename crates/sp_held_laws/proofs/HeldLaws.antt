@@ -19,17 +19,17 @@ use Rattle.sp_rules.specs.Worlds.{World, Space, WorldEvent, grown, new_space, af
 use Rattle.sp_rules.proofs.AllLemmas.{some-none}
 use Rattle.sp_rules.proofs.OwnLemmas.{some-same}
 use Rattle.sp_laws.specs.Others.{HasTwoEnds}
-use Rattle.sp_world_laws.specs.Ends.{IsOneOf}
+use Rattle.sp_order_laws.specs.Ends.{IsOneOf}
 use Rattle.sp_order_laws.proofs.NoteLemmas.{append-none, append-after}
 use Rattle.sp_order_laws.proofs.WorldFacts.{Known, at-all, all_known}
-use Rattle.sp_answer_laws.specs.Unbroken.{AreOfOneKind, NothingFails, is_failure}
-use Rattle.sp_answer_laws.proofs.UnbrokenLaws.{run-last}
-use Rattle.sp_answer_laws.proofs.WelcomeLemmas.{Facts}
-use Rattle.sp_kept_laws.specs.Granted.{is_granted}
-use Rattle.sp_kept_laws.specs.Reaches.{grown_by, AreTakenBy, ComesBy, IsSilent, AreAlone, ReachesOne}
-use Rattle.sp_kept_laws.specs.Steps.{has_entry_for}
-use Rattle.sp_kept_laws.proofs.GrantLaws.{fewer-before}
-use Rattle.sp_kept_laws.proofs.ReachLaws.{at-row}
+use Rattle.sp_order_laws.specs.Unbroken.{AreOfOneKind, NothingFails, is_failure}
+use Rattle.sp_order_laws.proofs.UnbrokenLaws.{run-last}
+use Rattle.sp_order_laws.proofs.WelcomeLemmas.{Facts}
+use Rattle.sp_held_laws.specs.Granted.{is_granted}
+use Rattle.sp_held_laws.specs.Reaches.{grown_by, AreTakenBy, ComesBy, IsSilent, AreAlone, ReachesOne}
+use Rattle.sp_held_laws.specs.Steps.{has_entry_for}
+use Rattle.sp_held_laws.proofs.GrantLaws.{fewer-before}
+use Rattle.sp_held_laws.proofs.ReachLaws.{at-row}
 use Rattle.sp_held_laws.specs.Entries.{GrantedHaveEntries, GrantedReferencesHaveEntries, LeasesComeOfEntries}
 use Rattle.sp_held_laws.specs.Lost.{NothingHeldIsLost, WhatIsNamedStands, CallsFound, CallsFindTheirObjects}
 use Rattle.sp_held_laws.specs.Premises.{LetsNoneExpire, NothingExpires, HoldersAreFew}

@@ -24,12 +24,12 @@ use Rattle.sp_rules.proofs.StandingLemmas.{entries_stand}
 use Rattle.sp_rules.proofs.SweepLemmas.{one-id}
 use Rattle.dgc_list.specs.declared.remembered.Remembered.{Remembered}
 use Rattle.uuid.specs.declared.Uuid.{Uuid}
-use Rattle.sp_world_laws.specs.Ends.{IsOneOf}
-use Rattle.sp_answer_laws.proofs.WelcomeLemmas.{one-total}
-use Rattle.sp_kept_laws.specs.Granted.{started_of}
-use Rattle.sp_kept_laws.specs.Steps.{has_entry_for}
+use Rattle.sp_order_laws.specs.Ends.{IsOneOf}
+use Rattle.sp_order_laws.proofs.WelcomeLemmas.{one-total}
+use Rattle.sp_held_laws.specs.Granted.{started_of}
+use Rattle.sp_held_laws.specs.Steps.{has_entry_for}
 use Rattle.sp_held_laws.specs.Lost.{IsReferenceTo}
-use Rattle.sp_kept_laws.proofs.FreeLemmas.{bit, times-cons, times-append, one-foreign, NotIt, none-in, other-not-it}
+use Rattle.sp_held_laws.proofs.FreeLemmas.{bit, times-cons, times-append, one-foreign, NotIt, none-in, other-not-it}
 
 -- ---- lists
 

@@ -16,15 +16,15 @@ use Rattle.sp_rules.specs.Space
 use Rattle.sp_rules.specs.State.{State, object_at}
 use Rattle.sp_rules.specs.Worlds.{World, Space, Pipe, End, Dialler, Accepter, side, other, WorldEvent}
 use Rattle.sp_rules.proofs.SweepLemmas.{one-id}
-use Rattle.sp_call_laws.specs.Directions.{HasDirections}
-use Rattle.sp_world_laws.specs.Delivered.{came_on, sent_on}
-use Rattle.sp_world_laws.specs.Ends.{IsOneOf}
+use Rattle.sp_laws.specs.Directions.{HasDirections}
+use Rattle.sp_order_laws.specs.Delivered.{came_on, sent_on}
+use Rattle.sp_order_laws.specs.Ends.{IsOneOf}
 use Rattle.sp_order_laws.specs.Places.{IsBetween}
 use Rattle.sp_order_laws.proofs.WorldFacts.{Known, at-all}
-use Rattle.sp_answer_laws.specs.Senders.{CallerHolds}
-use Rattle.sp_answer_laws.proofs.WelcomeFrames.{not-dialled}
-use Rattle.sp_answer_laws.proofs.WelcomeLemmas.{Facts, of-there, one-right, went}
-use Rattle.sp_kept_laws.specs.Reaches.{ComesBy, IsFirstTo, IsSilent}
+use Rattle.sp_order_laws.specs.Senders.{CallerHolds}
+use Rattle.sp_order_laws.proofs.WelcomeFrames.{not-dialled}
+use Rattle.sp_order_laws.proofs.WelcomeLemmas.{Facts, of-there, one-right, went}
+use Rattle.sp_held_laws.specs.Reaches.{ComesBy, IsFirstTo, IsSilent}
 use Rattle.sp_held_laws.specs.Lost.{ComesAsCall, IsReferenceTo, NamedStands, FindsObject}
 use Rattle.sp_held_laws.proofs.HolderLemmas.{stands-found}
 use Rattle.sp_held_laws.proofs.StandLaws.{Entered, held-by-caller, held-as-result}

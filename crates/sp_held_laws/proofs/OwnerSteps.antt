@@ -25,22 +25,22 @@ use Rattle.sp_rules.specs.State.{State, Request, Tells, Stage, Out, is_open}
 use Rattle.sp_rules.specs.Worlds.{World, Space, Pipe, Accepter, WorldEvent, grown, lent_for}
 use Rattle.sp_rules.proofs.LinesOfRules.{lines_wait_for_hellos}
 use Rattle.sp_rules.proofs.OwnLemmas.{unrefused, first-of, not-false}
-use Rattle.sp_world_laws.specs.Delivered.{came_on, sent_on, frame_of, outputs_at, outputs_in}
-use Rattle.sp_world_laws.specs.Ends.{IsOneOf}
+use Rattle.sp_order_laws.specs.Delivered.{came_on, sent_on, frame_of, outputs_at, outputs_in}
+use Rattle.sp_order_laws.specs.Ends.{IsOneOf}
 use Rattle.sp_order_laws.specs.Places.{IsBetween}
 use Rattle.sp_order_laws.specs.Rising.{sequence_in, sequence_numbers}
 use Rattle.sp_order_laws.proofs.LastWorlds.{rises-over}
 use Rattle.sp_order_laws.proofs.NoteLemmas.{flat-append}
 use Rattle.sp_order_laws.proofs.WorldFacts.{Known, at-all}
-use Rattle.sp_answer_laws.proofs.TimeLemmas.{Given, Dialled, dialled-there, one-dialled}
-use Rattle.sp_answer_laws.proofs.UnbrokenLaws.{one-either}
-use Rattle.sp_answer_laws.proofs.WelcomeLemmas.{one-some, one-left, one-right}
-use Rattle.sp_kept_laws.specs.Cleans.{is_clean_of, IsOutBelow}
-use Rattle.sp_kept_laws.specs.Granted.{is_granted}
-use Rattle.sp_kept_laws.specs.Reaches.{grown_by, ComesBy, IsFirstTo, IsSilent}
-use Rattle.sp_kept_laws.specs.Steps.{has_entry_for, expires_with, BringsClean}
-use Rattle.sp_kept_laws.proofs.AskedLemmas.{in-flat-of, out-peer, group-peer, among-ids, ids-among, CleanOut, clean-out}
-use Rattle.sp_kept_laws.proofs.CleanLaws.{clean-below}
+use Rattle.sp_order_laws.proofs.TimeLemmas.{Given, Dialled, dialled-there, one-dialled}
+use Rattle.sp_order_laws.proofs.UnbrokenLaws.{one-either}
+use Rattle.sp_order_laws.proofs.WelcomeLemmas.{one-some, one-left, one-right}
+use Rattle.sp_held_laws.specs.Cleans.{is_clean_of, IsOutBelow}
+use Rattle.sp_held_laws.specs.Granted.{is_granted}
+use Rattle.sp_held_laws.specs.Reaches.{grown_by, ComesBy, IsFirstTo, IsSilent}
+use Rattle.sp_held_laws.specs.Steps.{has_entry_for, expires_with, BringsClean}
+use Rattle.sp_held_laws.proofs.AskedLemmas.{in-flat-of, out-peer, group-peer, among-ids, ids-among, CleanOut, clean-out}
+use Rattle.sp_held_laws.proofs.CleanLaws.{clean-below}
 use Rattle.sp_held_laws.specs.Entries.{IsDirtyOut}
 use Rattle.sp_held_laws.specs.Premises.{LetsNoneExpire}
 use Rattle.sp_held_laws.proofs.BetweenLemmas.{Between, between-of, frame-from, first-along, ClientRow, client-row}

@@ -33,13 +33,13 @@ use Rattle.sp_rules.specs.Worlds.{World, Space, WorldEvent, Own, Step, Open, Ref
 use Rattle.sp_rules.proofs.AllLemmas.{all-pass}
 use Rattle.sp_rules.proofs.OwnLemmas.{and-left, and-right}
 use Rattle.sp_laws.specs.Counted.{times_held}
-use Rattle.sp_world_laws.specs.Ends.{IsOneOf}
-use Rattle.sp_answer_laws.specs.Unbroken.{NothingFails, is_failure}
-use Rattle.sp_kept_laws.proofs.FreeLemmas.{one-of}
+use Rattle.sp_order_laws.specs.Ends.{IsOneOf}
+use Rattle.sp_order_laws.specs.Unbroken.{NothingFails, is_failure}
+use Rattle.sp_held_laws.proofs.FreeLemmas.{one-of}
 use Rattle.sp_scripts.specs.Scripts
-use Rattle.sp_hold_laws.specs.OneObject
-use Rattle.sp_world_runs.specs.Quiet
-use Rattle.sp_world_runs.specs.Quiet.{PassesQuietly, three_spaces}
+use Rattle.sp_held_laws.specs.OneObject
+use Rattle.sp_held_laws.specs.Quiet
+use Rattle.sp_held_laws.specs.Quiet.{PassesQuietly, three_spaces}
 use Rattle.sp_held_laws.specs.Passes.{passed, renewing_events, PassesUnlost}
 use Rattle.sp_held_laws.specs.Premises.{LetsNoneExpire, NothingExpires}
 

@@ -16,12 +16,12 @@ use Rattle.sp_rules.specs.Requests.{group_frame}
 use Rattle.sp_rules.specs.State.{Request, Asked, Tells, Stage, Out}
 use Rattle.sp_rules.specs.Worlds.{World, Space, Pipe}
 use Rattle.sp_rules.proofs.OwnLemmas.{and-left, and-right}
-use Rattle.sp_world_laws.specs.Ends.{IsOneOf}
+use Rattle.sp_order_laws.specs.Ends.{IsOneOf}
 use Rattle.sp_order_laws.specs.Places.{IsBetween}
-use Rattle.sp_answer_laws.specs.RequestOrder.{AllPairs, StandInOrder, AskedRise}
-use Rattle.sp_answer_laws.proofs.TimeLemmas.{Given}
-use Rattle.sp_kept_laws.proofs.AskedLemmas.{AreOfNumber, Asks, asked-there, out-peer}
-use Rattle.sp_kept_laws.proofs.CleanLaws.{pair-order}
+use Rattle.sp_order_laws.specs.RequestOrder.{AllPairs, StandInOrder, AskedRise}
+use Rattle.sp_order_laws.proofs.TimeLemmas.{Given}
+use Rattle.sp_held_laws.proofs.AskedLemmas.{AreOfNumber, Asks, asked-there, out-peer}
+use Rattle.sp_held_laws.proofs.CleanLaws.{pair-order}
 
 -- ---- one request of a number
 

@@ -25,16 +25,16 @@ use Rattle.sp_rules.proofs.AllLemmas.{some-none, all-pass}
 use Rattle.sp_rules.proofs.OriginsOfFrames.{Matches, Waits}
 use Rattle.sp_rules.proofs.OwnLemmas.{own-only, has-some}
 use Rattle.sp_laws.specs.Answered.{AreInPlace, CameOn, IsGreeted}
-use Rattle.sp_world_laws.specs.Ends.{IsOneOf}
+use Rattle.sp_order_laws.specs.Ends.{IsOneOf}
 use Rattle.sp_order_laws.specs.Places.{IsBetween}
 use Rattle.sp_order_laws.proofs.WorldFacts.{Known, at-all}
-use Rattle.sp_answer_laws.specs.Senders.{CallerHolds}
-use Rattle.sp_answer_laws.specs.Unbroken.{IsJoined, ends_at}
-use Rattle.sp_answer_laws.proofs.WelcomeFrames.{row-opened}
-use Rattle.sp_answer_laws.proofs.WelcomeLemmas.{Facts}
-use Rattle.sp_kept_laws.specs.Granted.{is_granted, started_of, awaited_of}
-use Rattle.sp_kept_laws.specs.Steps.{has_entry_for}
-use Rattle.sp_kept_laws.proofs.FreeLemmas.{one-of}
+use Rattle.sp_order_laws.specs.Senders.{CallerHolds}
+use Rattle.sp_order_laws.specs.Unbroken.{IsJoined, ends_at}
+use Rattle.sp_order_laws.proofs.WelcomeFrames.{row-opened}
+use Rattle.sp_order_laws.proofs.WelcomeLemmas.{Facts}
+use Rattle.sp_held_laws.specs.Granted.{is_granted, started_of, awaited_of}
+use Rattle.sp_held_laws.specs.Steps.{has_entry_for}
+use Rattle.sp_held_laws.proofs.FreeLemmas.{one-of}
 use Rattle.sp_held_laws.specs.Entries.{GrantedHaveEntries, IsDirtyOut}
 use Rattle.sp_held_laws.specs.Lost.{IsReferenceTo}
 use Rattle.sp_held_laws.specs.Premises.{HoldersAreFew}

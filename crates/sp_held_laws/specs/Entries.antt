@@ -12,10 +12,10 @@ use Rattle.sp_rules.specs.Frames.{tells_of}
 use Rattle.sp_rules.specs.Holders.{lease_now}
 use Rattle.sp_rules.specs.State.{State, Request, Tells, Out}
 use Rattle.sp_rules.specs.Worlds.{World, Space, Pipe}
-use Rattle.sp_world_laws.specs.Ends.{IsOneOf}
+use Rattle.sp_order_laws.specs.Ends.{IsOneOf}
 use Rattle.sp_order_laws.specs.Places.{IsBetween}
-use Rattle.sp_kept_laws.specs.Granted.{is_granted}
-use Rattle.sp_kept_laws.specs.Steps.{has_entry_for}
+use Rattle.sp_held_laws.specs.Granted.{is_granted}
+use Rattle.sp_held_laws.specs.Steps.{has_entry_for}
 use Rattle.sp_held_laws.specs.Premises.{InQuietRuns}
 
 -- A reference is foreign to the first of two spaces of a world, and the second is its owner.

@@ -2,3 +2,16 @@ pub mod Premises
 pub mod Entries
 pub mod Lost
 pub mod Passes
+pub mod OneObject
+pub mod Guards
+pub mod HeldResults
+pub mod Going
+pub mod SeenAs
+pub mod Granted
+pub mod Cleans
+pub mod Steps
+pub mod Reaches
+pub mod Secure
+pub mod Whole
+pub mod Runs
+pub mod Quiet

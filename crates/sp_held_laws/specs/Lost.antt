@@ -14,10 +14,10 @@ use Rattle.sp_rules.specs.References.{references_in, references_of}
 use Rattle.sp_rules.specs.Space.{state_of}
 use Rattle.sp_rules.specs.State.{State, Frame, CallFrame, ReturnedFrame, object_at}
 use Rattle.sp_rules.specs.Worlds.{World, Space, Pipe}
-use Rattle.sp_world_laws.specs.Ends.{IsOneOf}
+use Rattle.sp_order_laws.specs.Ends.{IsOneOf}
 use Rattle.sp_order_laws.specs.Places.{IsBetween}
-use Rattle.sp_kept_laws.specs.Granted.{started_of}
-use Rattle.sp_kept_laws.specs.Steps.{has_entry_for}
+use Rattle.sp_held_laws.specs.Granted.{started_of}
+use Rattle.sp_held_laws.specs.Steps.{has_entry_for}
 use Rattle.sp_held_laws.specs.Premises.{InQuietRuns}
 
 -- ---- what is held

@@ -7,9 +7,9 @@ use Rattle.sp_rules.specs.Events.{Moment, Root, RootAck, Bind, Unbind, Lookup, S
 use Rattle.sp_rules.specs.Lists.{with_some}
 use Rattle.sp_rules.specs.Worlds.{World, Space, WorldEvent, Own, run, new_world}
 use Rattle.sp_scripts.specs.Names.{counter_make, user_make, user_pass, counter_class, user_class}
-use Rattle.sp_answer_laws.specs.Unbroken.{AreOfOneKind, NothingFails}
-use Rattle.sp_kept_laws.specs.Granted.{started_of}
-use Rattle.sp_world_runs.specs.Quiet.{Part, Event, Settles, events_of, object_of, three_spaces, comes_to}
+use Rattle.sp_order_laws.specs.Unbroken.{AreOfOneKind, NothingFails}
+use Rattle.sp_held_laws.specs.Granted.{started_of}
+use Rattle.sp_held_laws.specs.Quiet.{Part, Event, Settles, events_of, object_of, three_spaces, comes_to}
 use Rattle.sp_held_laws.specs.Premises.{NothingExpires, HoldersAreFew}
 
 -- Two spaces make an object each and bind it; the third looks both up, and renews its leases as its time passes, so

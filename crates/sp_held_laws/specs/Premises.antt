@@ -8,8 +8,8 @@ use Rattle.sp_rules.specs.Classes.{Setting}
 use Rattle.sp_rules.specs.Laws.{AllOf}
 use Rattle.sp_rules.specs.Worlds.{World, Space, WorldEvent, Own, after, run, new_world}
 use Rattle.sp_laws.specs.Counted.{times_held}
-use Rattle.sp_answer_laws.specs.Unbroken.{AreOfOneKind, NothingFails}
-use Rattle.sp_kept_laws.specs.Steps.{has_entry_for, expires_with}
+use Rattle.sp_order_laws.specs.Unbroken.{AreOfOneKind, NothingFails}
+use Rattle.sp_held_laws.specs.Steps.{has_entry_for, expires_with}
 
 -- An event of a world lets no entry for the object of a reference expire, at its owner.
 abbrev pub LetsNoneExpire : ForeignId → World → WorldEvent → Type 0

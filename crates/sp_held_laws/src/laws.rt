@@ -4,22 +4,22 @@ ghost use Rattle.sp_held_laws.specs.Entries.{GrantedReferencesHaveEntries, Lease
 ghost use Rattle.sp_held_laws.specs.Lost.{CallsFindTheirObjects, NothingHeldIsLost, WhatIsNamedStands};
 ghost use Rattle.sp_held_laws.specs.Passes.{PassesUnlost};
 
-use sp_answer_laws::laws::{calls_come_in_time, calls_keep_their_order, senders_hold};
-use sp_call_laws::laws::{frames_go_their_way, spaces_have_directions};
-use sp_hello_laws::laws::hand_shakes_are_in_table;
-use sp_kept_laws::laws::{
+use crate::kept::{
     dirty_calls_are_awaited, dirty_calls_set_entries, entries_stay_until_cleaned,
     events_reach_one_space, granted_references_stay_secure, only_leases_grant,
     what_is_held_is_granted, what_is_out_stays_asked,
 };
+use crate::runs::a_reference_passes_where_nothing_fails;
+use sp_laws::calls::{frames_go_their_way, spaces_have_directions};
 use sp_laws::laws::{answers_are_parked, connections_are_opened_once};
-use sp_lease_laws::laws::{calls_are_made_when_due, calls_on_their_way_are_requests};
+use sp_laws::leases::{calls_are_made_when_due, calls_on_their_way_are_requests};
+use sp_order_laws::answers::{calls_come_in_time, calls_keep_their_order, senders_hold};
+use sp_order_laws::hellos::hand_shakes_are_in_table;
 use sp_order_laws::laws::{
     calls_come_above_the_last, each_call_stands_once, each_group_is_answered_once,
     each_result_is_acknowledged_once, frames_are_answered_once, sequence_numbers_rise,
 };
-use sp_world_laws::laws::{parked_results_came, what_comes_was_sent};
-use sp_world_runs::laws::a_reference_passes_where_nothing_fails;
+use sp_order_laws::worlds::{parked_results_came, what_comes_was_sent};
 
 /// In every run of every world of spaces that have ids of their own and one digest, in which no Dial is
 /// refused, no read or write fails and no entry for an object expires: of each reference to the object that

@@ -7,8 +7,8 @@ use Rattle.space_ids.specs.declared.ids.ClassId.{ClassId}
 use Rattle.space_ids.specs.declared.ids.ObjId.{ObjId}
 use Rattle.space_ids.specs.declared.ids.Ref.{Ref}
 use Rattle.space_ids.specs.declared.value.Value.{Value}
-use Rattle.sp_call_results.specs.Held.{acked_row, of_calls, of_roots}
-use Rattle.sp_call_results.proofs.RootLemmas.{any-of-both}
+use Rattle.sp_results.specs.Held.{acked_row, of_calls, of_roots}
+use Rattle.sp_results.proofs.RootLemmas.{any-of-both}
 use Rattle.sp_living.specs.Views.{Seen, kept, seen, seen_row}
 use Rattle.sp_owner.specs.Owners.{owner_parts, told}
 use Rattle.sp_results.specs.Waiting as waiting

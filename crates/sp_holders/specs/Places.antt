@@ -3,7 +3,7 @@ use Rattle.std.specs.Prelude.{ℕ, ◌||◌, nat_eq, Bool, false, List, Option, 
 use Rattle.std.specs.List.{list_any}
 use Rattle.std.specs.Map.{lookup}
 use Rattle.space_ids.specs.declared.ids.Ref.{Ref}
-use Rattle.sp_call_results.specs.Held.{of_calls, of_roots}
+use Rattle.sp_results.specs.Held.{of_calls, of_roots}
 use Rattle.sp_living.specs.Tickets.{is_found}
 use Rattle.sp_parked.specs.declared.frame.ParkedFrame.{ParkedFrame}
 use Rattle.sp_rules.specs.Classes.{Setting}

@@ -4,9 +4,9 @@ use crate::CallKey;
 use crate::fields::is_in_object;
 use crate::holder::{Holder, call_has, result_has, task_has};
 use crate::tables::is_in_own_tables;
-use sp_call_results::CallResults;
 use sp_living::Living;
 use sp_owner::Owner;
+use sp_results::CallResults;
 use sp_state::SpaceState;
 use space_ids::Ref;
 

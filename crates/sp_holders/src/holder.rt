@@ -2,7 +2,7 @@
 
 ghost use Rattle.std.specs.Prelude.{◌≡◌, ℕ, List, true};
 ghost use Rattle.std.specs.List.{list_any};
-ghost use Rattle.sp_call_results.specs.Held.{AreCallResults};
+ghost use Rattle.sp_results.specs.Held.{AreCallResults};
 ghost use Rattle.sp_living.specs.Livings.{IsLiving};
 ghost use Rattle.sp_rules.specs.Classes.{Setting};
 ghost use Rattle.sp_rules.specs.Holders.{has_holder};
@@ -13,9 +13,8 @@ ghost use Rattle.sp_holders.specs.Places.{tables_have};
 
 use crate::fields::object_has;
 use crate::same::{is_among, is_result};
-use sp_call_results::CallResults;
 use sp_living::Living;
-use sp_results::Results;
+use sp_results::{CallResults, Results};
 use sp_state::SpaceState;
 use sp_tasks::Tasks;
 use space_ids::{ObjId, Ref};

@@ -2,7 +2,7 @@
 use Rattle.std.proofs.Common.{inl, inr, ℕ, Option, None, Some}
 use Rattle.std.specs.Prelude.{option_map}
 use Rattle.cls_link.specs.Links.{Links}
-use Rattle.sp_players.specs.Players.{IsBehind, IsLevel, IsPlayedBy, IsUntouched, IsWaiting, Played}
+use Rattle.sp_machines.specs.Players.{IsBehind, IsLevel, IsPlayedBy, IsUntouched, IsWaiting, Played}
 use Rattle.sp_rules.specs.Classes.{Setting}
 use Rattle.sp_rules.specs.State.{Living, Origin}
 use Rattle.sp_lending.specs.Hands.{IsHeld}

@@ -7,8 +7,8 @@ use Rattle.cls_set.specs.Classes.{number_of}
 use Rattle.space_ids.specs.declared.ids.ClassId.{ClassId}
 use Rattle.space_ids.specs.declared.value.Value.{Value}
 use Rattle.uuid.specs.declared.Uuid.{Uuid}
-use Rattle.sp_classes.specs.Classes.{classes_of}
-use Rattle.sp_classes.specs.Starts.{start_refusal_in}
+use Rattle.sp_behaviours.specs.Classes.{classes_of}
+use Rattle.sp_behaviours.specs.Starts.{start_refusal_in}
 use Rattle.sp_core.specs.Cores.{IsCore, is_lent}
 use Rattle.sp_core.specs.Roots.{IsTold}
 use Rattle.sp_core.specs.declared.space_core.SpaceCore.{SpaceCore}
@@ -16,10 +16,10 @@ use Rattle.sp_events.specs.Events.{event_of_root}
 use Rattle.sp_events.specs.FaultNames.{start_refusal}
 use Rattle.sp_events.specs.declared.event.Root.{Root}
 use Rattle.sp_living.specs.Views.{seen_row}
-use Rattle.sp_players.specs.Limits.{AreLimits}
-use Rattle.sp_players.specs.Players.{Played}
-use Rattle.sp_players.proofs.BeginLemmas.{plays-on}
-use Rattle.sp_reply_laws.specs.Told.{AreRemoteRules}
+use Rattle.sp_machines.specs.Limits.{AreLimits}
+use Rattle.sp_machines.specs.Players.{Played}
+use Rattle.sp_machines.proofs.BeginLemmas.{plays-on}
+use Rattle.sp_behaviours.specs.Told.{AreRemoteRules}
 use Rattle.sp_rules.specs.Classes.{Setting}
 use Rattle.sp_rules.specs.Events.{Root as Roots}
 use Rattle.sp_rules.specs.Refusals.{refusal}

@@ -1,40 +1,35 @@
 -- A task in hand of which the store does an operation.
-use Rattle.std.proofs.Common.{◌≡◌, inr, ℕ, ◌+◌, ◌≤◌, Bool, true, false, cond, List, [], ◌∷◌, ◌++◌, Option, None, Some, refl, sym, ap, subst, ◌∙◌, arith}
-use Rattle.std.specs.Prelude.{not, is_some, ◌&&◌}
-use Rattle.std.proofs.lemmas.Bool.{false≢true}
-use Rattle.cls_set.specs.declared.class.Class.{Class}
+use Rattle.std.proofs.Common.{◌≡◌, inr, ℕ, ◌+◌, ◌≤◌, true, false, List, [], ◌∷◌, ◌++◌, None, Some, refl, sym, ap, subst, ◌∙◌, arith}
+use Rattle.std.specs.Prelude.{not, is_some}
 use Rattle.sp_behaviours.specs.Behaviours.{IsOfStore, op_at}
-use Rattle.sp_behaviours.specs.Follows.{Follows, waiting}
+use Rattle.sp_behaviours.specs.Follows.{Follows}
 use Rattle.sp_core.specs.Cores.{IsCore, is_lent, lent_as}
 use Rattle.sp_core.specs.declared.lent_task.LentTask.{LentTask}
 use Rattle.sp_core.specs.declared.space_core.SpaceCore.{SpaceCore}
 use Rattle.sp_living.specs.Views.{turned}
-use Rattle.sp_players.specs.Players.{IsBehind, IsLevel, IsPlayedBy, Played, WaitsFor}
-use Rattle.sp_players.proofs.PlayedLemmas.{follows-abreast, waits-stand}
-use Rattle.sp_record_laws.proofs.LentEvents.{lent_tasks_go_on}
-use Rattle.sp_reply_laws.specs.Calls.{IsTakenAs}
-use Rattle.sp_reply_laws.proofs.TakenLemmas.{store_replies_are_taken}
+use Rattle.sp_machines.specs.Players.{IsBehind, IsLevel, IsPlayedBy, Played, WaitsFor}
+use Rattle.sp_machines.proofs.PlayedLemmas.{follows-abreast, waits-stand}
+use Rattle.sp_laws.proofs.LentEvents.{lent_tasks_go_on}
+use Rattle.sp_behaviours.specs.Calls.{IsTakenAs}
+use Rattle.sp_behaviours.proofs.AskedLemmas.{back-taken, of-store, reply-after, store-keeps}
+use Rattle.sp_behaviours.proofs.TakenLemmas.{store_replies_are_taken}
 use Rattle.sp_rules.specs.Behaviours as rules
-use Rattle.sp_rules.specs.Behaviours.{Op, Create, Get, Put, Call}
+use Rattle.sp_rules.specs.Behaviours.{Op}
 use Rattle.sp_rules.specs.Classes.{Setting}
 use Rattle.sp_rules.specs.Events.{Event, Committed, GivenBack}
-use Rattle.sp_rules.specs.Lists.{with_some}
-use Rattle.sp_rules.specs.LivingTasks.{after_reply, after_steps, give_back, op_reply}
+use Rattle.sp_rules.specs.LivingTasks.{after_reply, after_steps, op_reply}
 use Rattle.sp_rules.specs.Origins.{IsTaken}
-use Rattle.sp_rules.specs.Refusals.{NotLent, WornOut, first_refusal, fits_store, is_worn, refusal, refuse_if}
+use Rattle.sp_rules.specs.Refusals.{fits_store, refusal}
 use Rattle.sp_rules.specs.Runs.{replayed}
-use Rattle.sp_rules.specs.Space.{happen, on, state_of}
-use Rattle.sp_rules.specs.State.{State, Given, Living, ready_at, set_task, task_at}
-use Rattle.sp_rules.specs.Tasks.{Task, AsksFor, answer, stand, steps}
+use Rattle.sp_rules.specs.Space.{on, state_of}
+use Rattle.sp_rules.specs.State.{Given, Living, task_at}
+use Rattle.sp_rules.specs.Tasks.{AsksFor, answer, stand, steps}
 use Rattle.sp_rules.proofs.AskedLemmas.{commits_are_asked}
 use Rattle.sp_tasks.specs.Behaviours.{op_of}
 use Rattle.sp_tasks.specs.Rows.{Hand, replied_hand}
 use Rattle.sp_tasks.specs.declared.behaviour.Op.{Op as Told_op}
 use Rattle.sp_tasks.specs.declared.behaviour.Stand.{Stand as Told}
 use Rattle.sp_tasks.specs.declared.behaviour.Stand.TheVariants as told
-use Rattle.vm_act.specs.declared.asked.Asked.{Asked}
-use Rattle.vm_act.specs.declared.asked.Asked.TheVariants as asked
-use Rattle.vm_act.specs.declared.machine.Machine.{Machine}
 use Rattle.vm_step.specs.Run.{Waits}
 use Rattle.sp_lending.specs.Hands.{IsAt, IsHeld, IsHome, IsNow, IsTask}
 use Rattle.sp_lending.specs.Rows.{IsMachine}
@@ -42,43 +37,13 @@ use Rattle.sp_lending.specs.Spaces.{Stands}
 use Rattle.sp_lending.specs.declared.parts.Parts.{Parts}
 use Rattle.sp_lending.specs.declared.task_parts.TaskParts.{TaskParts}
 use Rattle.sp_lending.proofs.FoundLemmas.{Found, found-commit, found-now}
-use Rattle.sp_lending.proofs.LentIds.{lends-those, lent_ids}
+use Rattle.sp_lending.proofs.LentIds.{lent_ids}
 use Rattle.sp_lending.proofs.RecordLemmas.{steps-more, turned-more}
 use Rattle.sp_lending.proofs.ReturnLemmas.{own-level}
 use Rattle.sp_lending.proofs.SpaceLemmas.{out-event}
 use Rattle.sp_lending.proofs.TaskLemmas.{Standing}
 
--- ---- a reply does not rest on how far a task has come
-
--- the store is as it was after instructions of a task's own
-reply-same : (g : Setting) (id k : ℕ) (op : Op) (s : State) → op_reply g op (give_back id k s) ≡ op_reply g op s
-unfolding op_reply give_back
-reply-same g id k op s = by (ready_at s id) op
-  where
-    by : (o : Option Living) (op : Op) → op_reply g op (with_some o s (λ t. set_task (after_steps k) id s)) ≡ op_reply g op s
-    by None op = refl
-    by (Some t) (Create class) = refl
-    by (Some t) (Get object slot) = refl
-    by (Some t) (Put object slot value) = refl
-    by (Some t) (Call target method arguments) = refl
-
-reply-after : (g : Setting) (h : List Event) (id k : ℕ) (op : Op) → op_reply g op (state_of g (GivenBack id k ∷ h)) ≡ op_reply g op (state_of g h)
-unfolding state_of on happen
-reply-after g h id k op = reply-same g id k op (state_of g h)
-
 -- ---- an operation on the store
-
-of-store : (g : Setting) (s : State) (classes : List Class) (m : Machine) (op : Asked) → fits_store g s (op_at classes op m) ≡ true → IsOfStore op
-of-store g s classes m (asked.Create class) fits = tt
-of-store g s classes m (asked.Get object slot) fits = tt
-of-store g s classes m (asked.Put object slot value) fits = tt
-of-store g s classes m (asked.Call target method count) fits = absurd (false≢true fits)
-
-store-keeps : (op : Asked) (t : Task) → IsOfStore op → waiting op t ≡ t
-store-keeps (asked.Create class) t of = refl
-store-keeps (asked.Get object slot) t of = refl
-store-keeps (asked.Put object slot value) t of = refl
-store-keeps (asked.Call target method count) t of = absurd of
 
 asks-same : (a b : Op) → AsksFor a ≡ AsksFor b → a ≡ b
 asks-same a b e = cc
@@ -97,18 +62,6 @@ asking g t p (told.HasEnded outcome) op machine level at asks = let e = sym at �
 
 -- ---- the reply is one that its machine takes
 
--- a task that is lent may be given back
-back-unrefused : (worn here ready : Bool) → here ≡ true → ready ≡ true → cond (worn && false) (Some WornOut) (first_refusal (refuse_if (not (here && ready)) NotLent)) ≡ None
-back-unrefused true true true here ready = refl
-back-unrefused false true true here ready = refl
-back-unrefused worn false ready here some = absurd (false≢true here)
-back-unrefused worn true false here some = absurd (false≢true some)
-
-back-taken : (g : Setting) (h : List Event) (core : SpaceCore) (hand : Hand) → (f : Found (state_of g h) core hand) → IsTaken g h → IsTaken g (GivenBack hand.id hand.made ∷ h)
-unfolding refusal
-back-taken g h core hand f taken =
-    ((lent_ids core, back-unrefused (is_worn (state_of g h)) _ (is_some (ready_at (state_of g h) hand.id)) (lends-those core hand.id ∙ f.lent) (ap is_some f.ready)), taken)
-
 takes-reply : (g : Setting) (h : List Event) (core : SpaceCore) (hand : Hand) (p : Played) (op : Op) → (f : Found (state_of g h) core hand) → IsTaken g h → IsMachine g p
     → IsLevel p.task.program g (after_steps hand.made f.living) p → (a : Asking p op) → IsOfStore a.waits.asked
     → IsTakenAs p.task.program.classes a.waits.asked a.waits.machine a.waits.fuel (op_reply g op (state_of g h))
@@ -119,7 +72,7 @@ takes-reply g h core hand p op f taken machine level a of =
     let e : Event = GivenBack hand.id hand.made in
     let lives : task_at (state_of g (e ∷ h)) hand.id ≡ Some u = lent_tasks_go_on g h e hand.id f.living refl f.ready in
     let follows : Follows links g u.task (Waits w.asked w.machine w.fuel) = subst (Follows links g u.task) w.state (follows-abreast links g u p level machine.abreast) in
-    let takes = store_replies_are_taken links g (e ∷ h) hand.id u w.asked w.machine w.fuel machine.set (back-taken g h core hand f taken) lives follows of in
+    let takes = store_replies_are_taken links g (e ∷ h) hand.id u w.asked w.machine w.fuel machine.set (back-taken g h hand.id hand.made (ap is_some f.ready) taken) lives follows of in
     let reply : op_reply g (op_at links.classes w.asked w.machine) (state_of g (e ∷ h)) ≡ op_reply g op (state_of g h) =
     reply-after g h hand.id hand.made (op_at links.classes w.asked w.machine) ∙ ap (λ (o : Op). op_reply g o (state_of g h)) (sym a.is) in
     subst (IsTakenAs links.classes w.asked w.machine w.fuel) reply takes

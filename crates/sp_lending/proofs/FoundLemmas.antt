@@ -6,8 +6,8 @@ use Rattle.std.proofs.lemmas.Bool.{eqb-true, false≢true}
 use Rattle.sp_lender.specs.Hands.{IsHistorys}
 use Rattle.sp_living.specs.Hands.{task_of}
 use Rattle.sp_living.specs.Views.{recorded_in, turned}
-use Rattle.sp_record_laws.specs.Calls.{point}
-use Rattle.sp_record_laws.proofs.FittedLemmas.{record-is}
+use Rattle.sp_laws.specs.Calls.{point}
+use Rattle.sp_laws.proofs.FittedLemmas.{record-is}
 use Rattle.sp_rules.specs.Behaviours.{Op, Create, Get, Put, Call}
 use Rattle.sp_rules.specs.Classes.{Setting}
 use Rattle.sp_rules.specs.Events.{Event, Committed, Parked, GivenBack, Finished}

@@ -4,8 +4,8 @@ use Rattle.std.specs.Prelude.{is_some, option_and_then, ◌==◌, ◌||◌}
 use Rattle.std.proofs.lemmas.Bool.{eq-eqb, eqb-true, true≢false}
 use Rattle.sp_core.specs.Cores.{is_historys, is_lent}
 use Rattle.sp_core.specs.declared.space_core.SpaceCore.{SpaceCore}
-use Rattle.sp_players.specs.Players.{Played}
-use Rattle.sp_players.proofs.PlayedLemmas.{after-none}
+use Rattle.sp_machines.specs.Players.{Played}
+use Rattle.sp_machines.proofs.PlayedLemmas.{after-none}
 use Rattle.sp_rules.specs.Classes.{Setting}
 use Rattle.sp_rules.specs.LivingTasks.{after_steps}
 use Rattle.sp_rules.specs.Space.{state_of}

@@ -7,11 +7,11 @@ use Rattle.sp_behaviours.specs.Follows.{Follows, waiting}
 use Rattle.sp_core.specs.Cores.{IsCore, lent_as}
 use Rattle.sp_core.specs.declared.space_core.SpaceCore.{SpaceCore}
 use Rattle.sp_lender.specs.Hands.{finished, given_back, parked}
-use Rattle.sp_players.specs.Players.{IsLevel, IsWaiting, Played, WaitsFor}
-use Rattle.sp_players.proofs.PlayedLemmas.{follows-abreast, waits-stand}
-use Rattle.sp_record_laws.specs.Changes.{when_finished, when_parked}
-use Rattle.sp_record_laws.proofs.FittedLemmas.{point-waiting}
-use Rattle.sp_record_laws.proofs.LentEvents.{lent_tasks_go_on}
+use Rattle.sp_machines.specs.Players.{IsLevel, IsWaiting, Played, WaitsFor}
+use Rattle.sp_machines.proofs.PlayedLemmas.{follows-abreast, waits-stand}
+use Rattle.sp_laws.specs.Changes.{when_finished, when_parked}
+use Rattle.sp_laws.proofs.FittedLemmas.{point-waiting}
+use Rattle.sp_laws.proofs.LentEvents.{lent_tasks_go_on}
 use Rattle.sp_rules.specs.Behaviours.{Op, Create, Get, Put, Call}
 use Rattle.sp_rules.specs.Classes.{Setting}
 use Rattle.sp_rules.specs.Events.{Event}

@@ -2,10 +2,10 @@
 use Rattle.std.proofs.Common.{◌≡◌, ℕ, Bool, true, false, cond, List, ◌∷◌, Option, None, Some, refl, sym, ap, subst, ◌∙◌}
 use Rattle.std.specs.Prelude.{not, ◌==◌, ◌&&◌}
 use Rattle.std.proofs.lemmas.Bool.{eq-eqb, eqb-true, false≢true, true≢false}
-use Rattle.sp_record_laws.specs.Changes.{IsOfSpace, lent_task}
-use Rattle.sp_record_laws.proofs.FittedLemmas.{tasks_go_on}
-use Rattle.sp_record_laws.proofs.LentEvents.{other_tasks_stay}
-use Rattle.sp_reply_laws.proofs.StartLemmas.{tasks_begin}
+use Rattle.sp_laws.specs.Changes.{IsOfSpace, lent_task}
+use Rattle.sp_laws.proofs.FittedLemmas.{tasks_go_on}
+use Rattle.sp_laws.proofs.LentEvents.{other_tasks_stay}
+use Rattle.sp_behaviours.proofs.StartLemmas.{tasks_begin}
 use Rattle.sp_rules.specs.Classes.{Setting}
 use Rattle.sp_rules.specs.Events.{Event}
 use Rattle.sp_rules.specs.Origins.{IsTaken}
@@ -14,8 +14,8 @@ use Rattle.sp_rules.specs.Space.{on, state_of}
 use Rattle.sp_rules.specs.State.{State, Living, task_at}
 use Rattle.sp_core.specs.Cores.{IsCore, is_lent}
 use Rattle.sp_core.specs.declared.space_core.SpaceCore.{SpaceCore}
-use Rattle.sp_players.specs.Players.{Played}
-use Rattle.sp_players.proofs.GoingLemmas.{goes-on}
+use Rattle.sp_machines.specs.Players.{Played}
+use Rattle.sp_machines.proofs.GoingLemmas.{goes-on}
 use Rattle.sp_lending.specs.Rows.{IsRow, row_at}
 use Rattle.sp_lending.specs.Spaces.{IsInSome, IsSpace, Stands}
 use Rattle.sp_lending.specs.declared.parts.Parts.{Parts}

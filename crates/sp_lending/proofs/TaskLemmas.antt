@@ -8,11 +8,11 @@ use Rattle.sp_core.specs.Hands.{HasFuel}
 use Rattle.sp_core.specs.declared.lent_task.LentTask.{LentTask}
 use Rattle.sp_living.specs.Hands.{StandsAt}
 use Rattle.sp_living.specs.Views.{recorded_in, turned}
-use Rattle.sp_players.specs.Coming.{fuel_at}
-use Rattle.sp_players.specs.Players.{CanCatchUp, IsLevel, IsPlayedBy, IsUntouched, Played}
-use Rattle.sp_players.proofs.BeginLemmas.{begins-level}
-use Rattle.sp_players.proofs.PlayedLemmas.{follows-abreast, only, waits-stand}
-use Rattle.sp_reply_laws.specs.Calls.{IsSettingOf}
+use Rattle.sp_machines.specs.Coming.{fuel_at}
+use Rattle.sp_machines.specs.Players.{CanCatchUp, IsLevel, IsPlayedBy, IsUntouched, Played}
+use Rattle.sp_machines.proofs.BeginLemmas.{begins-level}
+use Rattle.sp_machines.proofs.PlayedLemmas.{follows-abreast, only, waits-stand}
+use Rattle.sp_behaviours.specs.Calls.{IsSettingOf}
 use Rattle.sp_rules.specs.Classes.{Setting}
 use Rattle.sp_rules.specs.LivingTasks.{after_steps}
 use Rattle.sp_rules.specs.Runs.{replayed}

@@ -4,9 +4,9 @@ use Rattle.cls_link.specs.Links.{Links}
 use Rattle.sp_behaviours.specs.Follows.{PlaysOn}
 use Rattle.sp_living.specs.Hands.{task_of}
 use Rattle.sp_living.specs.Views.{recorded_in}
-use Rattle.sp_players.specs.Limits.{AreLimits}
-use Rattle.sp_players.specs.Players.{IsLevel, IsPlayedBy, Played, WaitsFor}
-use Rattle.sp_reply_laws.specs.Calls.{IsSettingOf}
+use Rattle.sp_machines.specs.Limits.{AreLimits}
+use Rattle.sp_machines.specs.Players.{IsLevel, IsPlayedBy, Played, WaitsFor}
+use Rattle.sp_behaviours.specs.Calls.{IsSettingOf}
 use Rattle.sp_rules.specs.Classes.{Setting}
 use Rattle.sp_rules.specs.State.{Living}
 use Rattle.sp_rules.specs.Tasks as tasks

@@ -3,8 +3,8 @@ use Rattle.std.specs.Prelude.{◌≡◌, ℕ, false, nat_eq, Option, Some, None}
 use Rattle.std.specs.Map.{lookup}
 use Rattle.cls_link.specs.Links.{Links}
 use Rattle.sp_behaviours.specs.Follows.{PlaysOn}
-use Rattle.sp_players.specs.Players.{IsPlayed, Played}
-use Rattle.sp_reply_laws.specs.Calls.{IsSettingOf}
+use Rattle.sp_machines.specs.Players.{IsPlayed, Played}
+use Rattle.sp_behaviours.specs.Calls.{IsSettingOf}
 use Rattle.sp_rules.specs.Classes.{Setting}
 use Rattle.sp_rules.specs.State.{Living}
 use Rattle.sp_lending.specs.declared.rows.Rows.{Rows}

@@ -2,7 +2,7 @@
 use Rattle.std.specs.Prelude.{◌≡◌, ℕ, true, List, Some, None}
 use Rattle.uuid.specs.declared.Uuid.{Uuid}
 use Rattle.cls_link.specs.Links.{Links}
-use Rattle.sp_classes.specs.Classes.{classes_of}
+use Rattle.sp_behaviours.specs.Classes.{classes_of}
 use Rattle.sp_core.specs.Cores.{IsCore, is_lent}
 use Rattle.sp_rules.specs.Classes.{Setting}
 use Rattle.sp_rules.specs.Events.{Event}

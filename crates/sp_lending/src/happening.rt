@@ -11,8 +11,8 @@ ghost use Rattle.sp_rules.specs.State.{State};
 
 use crate::parts::Parts;
 use sp_events::{CoreFault, Event, Root};
+use sp_machines::refusal;
 use sp_outputs::Output;
-use sp_players::refusal;
 use space_ids::{Row, Value};
 use table_copies::copy_values;
 

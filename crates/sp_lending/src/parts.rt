@@ -1,10 +1,10 @@
 //! The parts of lending spaces.
 
 ghost use Rattle.std.specs.Prelude.{◌≡◌, IfOk};
-ghost use Rattle.sp_classes.specs.Classes.{classes_of};
+ghost use Rattle.sp_behaviours.specs.Classes.{classes_of};
 ghost use Rattle.sp_lending.specs.Spaces.{IsSpace};
-ghost use Rattle.sp_players.specs.Limits.{AreLimits};
-ghost use Rattle.sp_reply_laws.specs.Told.{AreRemoteRules};
+ghost use Rattle.sp_machines.specs.Limits.{AreLimits};
+ghost use Rattle.sp_behaviours.specs.Told.{AreRemoteRules};
 ghost use Rattle.sp_rules.specs.Classes.{Setting};
 ghost use Rattle.sp_rules.specs.State.{opening};
 

@@ -4,12 +4,12 @@ ghost use Rattle.std.specs.Prelude.{◌≡◌, false, IfOk, IfSome};
 ghost use Rattle.sp_lending.specs.Hands.{StandsIn};
 
 use sp_lender::Pause;
-use sp_players::Player;
+use sp_machines::TaskMachine;
 use sp_tasks::Stand;
 use std::alloc::{AllocError, Global};
 
 // Where a machine stands, if it has ended or asks, and what its slice ends with.
-pub(crate) fn pause(alloc: Global, player: &mut Player<'_>) -> (Option<Stand>, Pause)
+pub(crate) fn pause(alloc: Global, player: &mut TaskMachine<'_>) -> (Option<Stand>, Pause)
     ensures known { player.old.ahead ≡ false → IfSome result.0 (StandsIn player.old) }
     ensures same { player.new ≡ player.old }
 {
@@ -20,7 +20,7 @@ pub(crate) fn pause(alloc: Global, player: &mut Player<'_>) -> (Option<Stand>, P
 }
 
 // The same, if memory does not run out.
-fn point(alloc: Global, player: &mut Player<'_>) -> Result<(Option<Stand>, Pause), AllocError>
+fn point(alloc: Global, player: &mut TaskMachine<'_>) -> Result<(Option<Stand>, Pause), AllocError>
     ensures point { IfOk result (λ at. player.old.ahead ≡ false → IfSome at.0 (StandsIn player.old)) }
     ensures same { player.new ≡ player.old }
 {

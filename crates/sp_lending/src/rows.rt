@@ -3,17 +3,17 @@
 ghost use Rattle.std.specs.Prelude.{◌≡◌, ◌==◌, ◌<◌, ℕ, true, None, Option, Some, OnOk, if◌then◌else◌, is_some, option_and_then, option_map};
 ghost use Rattle.indexmap.specs.IndexMap.{spare};
 ghost use Rattle.sp_lending.specs.Rows.{row_at};
-ghost use Rattle.sp_players.specs.Players.{Played};
+ghost use Rattle.sp_machines.specs.Players.{Played};
 
 use indexmap::IndexMap;
-use sp_players::Player;
+use sp_machines::TaskMachine;
 use std::alloc::{AllocError, Global};
 
 /// The machines of the living tasks, by the ids of their tasks. A row without one is of a machine that is out:
 /// with its task, in the hands of who runs it.
 #[derive(Drop)]
 pub(crate) struct Rows<'p> {
-    rows: IndexMap<u64, Option<Player<'p>>>,
+    rows: IndexMap<u64, Option<TaskMachine<'p>>>,
 }
 
 impl<'p> Rows<'p> {
@@ -42,7 +42,7 @@ impl<'p> Rows<'p> {
     }
 
     /// Takes the machine of a task out, if it has one. There is room for its row, so it takes no memory.
-    pub(crate) fn take(&mut self, id: u64) -> Option<Player<'p>>
+    pub(crate) fn take(&mut self, id: u64) -> Option<TaskMachine<'p>>
         requires { 0 < spare self.old.rows }
         ensures taken { result ≡ option_and_then (λ (o : Option Played). o) (row_at id self.old) }
         ensures out { (other : ℕ) → row_at other self.new ≡ (if id == other then Some None else row_at other self.old) }
@@ -55,7 +55,7 @@ impl<'p> Rows<'p> {
     }
 
     /// Puts the machine of a task back into the row that it left. A task without a machine leaves none.
-    pub(crate) fn restore(&mut self, id: u64, player: Option<Player<'p>>)
+    pub(crate) fn restore(&mut self, id: u64, player: Option<TaskMachine<'p>>)
         requires { is_some (row_at id self.old) ≡ true }
         ensures { (other : ℕ) → row_at other self.new ≡ (if id == other then option_map (λ (p : Played). Some p) player.entry else row_at other self.old) }
     {
@@ -66,7 +66,7 @@ impl<'p> Rows<'p> {
     }
 
     // Puts the machine of a task into its row.
-    fn put(&mut self, id: u64, player: Player<'p>)
+    fn put(&mut self, id: u64, player: TaskMachine<'p>)
         requires { is_some (row_at id self.old) ≡ true }
         ensures { (other : ℕ) → row_at other self.new ≡ (if id == other then Some (Some player.entry) else row_at other self.old) }
     {

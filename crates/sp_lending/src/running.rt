@@ -10,7 +10,7 @@ ghost use Rattle.sp_rules.specs.Classes.{Setting};
 use crate::point::pause;
 use crate::task_parts::TaskParts;
 use sp_lender::Pause;
-use sp_players::Player;
+use sp_machines::TaskMachine;
 use std::alloc::AllocError;
 use vm_step::Limits;
 
@@ -45,7 +45,7 @@ impl<'p> TaskParts<'p> {
     }
 
     // Puts the machine back, which was taken out, and gives it the reply for which it stands, if the task has it.
-    fn catch_up(&mut self, mut player: Player<'p>) -> Result<(), AllocError>
+    fn catch_up(&mut self, mut player: TaskMachine<'p>) -> Result<(), AllocError>
         requires known { Somewhere (λ g. IsTask g (record self.old { player = Some player })) }
         ensures level { OnOk result ((g : Setting) → IsTask g (record self.old { player = Some player.entry }) → IsLevelTask g self.new) }
         ensures of { OnErr result ((g : Setting) → IsTask g (record self.old { player = Some player.entry }) → IsTask g self.new) }
@@ -69,7 +69,7 @@ impl<'p> TaskParts<'p> {
             fuel: record.fuel(),
             ..self.home.limits
         };
-        let player = Player::new(
+        let player = TaskMachine::new(
             self.home.alloc,
             self.home.program,
             self.home.id,
@@ -96,7 +96,7 @@ impl<'p> TaskParts<'p> {
     }
 
     // Puts the machine back, which was taken out, and lets it make instructions.
-    fn go(&mut self, mut player: Player<'p>, most: u64) -> Pause
+    fn go(&mut self, mut player: TaskMachine<'p>, most: u64) -> Pause
         requires known { Somewhere (λ g. IsLevelTask g (record self.old { player = Some player })) }
         ensures same { self.new.hand.task ≡ with_made self.new.hand.task.made self.old.hand.task }
         ensures made { self.old.hand.task.made ≤ self.new.hand.task.made }

@@ -1,12 +1,12 @@
 //! Lending spaces.
 
 ghost use Rattle.std.specs.Prelude.{◌≡◌, List, ℕ, IfOk, option_map, slice_get};
-ghost use Rattle.sp_classes.specs.Classes.{classes_of};
+ghost use Rattle.sp_behaviours.specs.Classes.{classes_of};
 ghost use Rattle.sp_core.specs.Cores.{Lends};
 ghost use Rattle.sp_core.specs.Shown.{lowest_ready, shown, shown_of};
 ghost use Rattle.sp_lending.specs.Spaces.{IsSpace};
-ghost use Rattle.sp_players.specs.Limits.{AreLimits};
-ghost use Rattle.sp_reply_laws.specs.Told.{AreRemoteRules};
+ghost use Rattle.sp_machines.specs.Limits.{AreLimits};
+ghost use Rattle.sp_behaviours.specs.Told.{AreRemoteRules};
 ghost use Rattle.sp_rules.specs.Classes.{Setting};
 ghost use Rattle.sp_rules.specs.State.{State, opening, standing};
 

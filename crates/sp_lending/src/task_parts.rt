@@ -1,11 +1,11 @@
 //! The parts of tasks in hand.
 
 ghost use Rattle.std.specs.Prelude.{◌≡◌, Some};
-ghost use Rattle.sp_players.specs.Coming.{fuel_at};
+ghost use Rattle.sp_machines.specs.Coming.{fuel_at};
 
 use crate::home::Home;
 use sp_core::LentTask;
-use sp_players::Player;
+use sp_machines::TaskMachine;
 use sp_tasks::Stand;
 use std::mem;
 
@@ -15,13 +15,13 @@ use std::mem;
 pub(crate) struct TaskParts<'p> {
     pub(crate) home: Home<'p>,
     pub(crate) hand: LentTask,
-    pub(crate) player: Option<Player<'p>>,
+    pub(crate) player: Option<TaskMachine<'p>>,
     pub(crate) stand: Option<Stand>,
 }
 
 impl<'p> TaskParts<'p> {
     // Puts its machine into its place.
-    pub(crate) fn put_player(&mut self, player: Player<'p>)
+    pub(crate) fn put_player(&mut self, player: TaskMachine<'p>)
         ensures { self.new ≡ record self.old { player = Some player.entry } }
     {
         drop(mem::replace(&mut self.player, Some(player)));
@@ -36,7 +36,7 @@ impl<'p> TaskParts<'p> {
 }
 
 // The fuel that a machine has left.
-pub(crate) fn fuel_of(player: &Option<Player<'_>>) -> u64
+pub(crate) fn fuel_of(player: &Option<TaskMachine<'_>>) -> u64
     ensures { result ≡ fuel_at player.now }
 {
     match player {

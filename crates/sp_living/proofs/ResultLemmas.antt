@@ -13,9 +13,9 @@ use Rattle.sp_rules.specs.Holders.{drop}
 use Rattle.sp_rules.specs.OwnEvents.{is_of_root}
 use Rattle.sp_rules.specs.State.{State, KeptResult, Until, RootAcked, Acked, Passed}
 use Rattle.sp_results.specs.Waiting.{is_waiting, of_task, without}
-use Rattle.sp_call_results.specs.Held.{AreCallResults, is_of_call, left_at, left_by_ack, of_roots, references_of_results, with_acked}
-use Rattle.sp_call_results.specs.declared.call_results.CallResults.{CallResults}
-use Rattle.sp_call_results.proofs.RootLemmas.{let-go-each, root-comes, root-goes, roots-more, roots-orphaned, roots-passed, roots-released}
+use Rattle.sp_results.specs.Held.{AreCallResults, is_of_call, left_at, left_by_ack, of_roots, references_of_results, with_acked}
+use Rattle.sp_results.specs.declared.call_results.CallResults.{CallResults}
+use Rattle.sp_results.proofs.RootLemmas.{let-go-each, root-comes, root-goes, roots-more, roots-orphaned, roots-passed, roots-released}
 use Rattle.sp_living.specs.Parts.{AreResults}
 use Rattle.sp_living.specs.Views.{kept}
 

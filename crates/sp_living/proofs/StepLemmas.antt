@@ -22,10 +22,10 @@ use Rattle.sp_rules.specs.State.{State, KeptResult, Origin, RootAcked, say, set_
 use Rattle.sp_rules.specs.State as rules
 use Rattle.sp_rules.specs.Tasks.{Task, Stand, AsksFor, HasEnded, answer, gained, lent, stand, start, steps}
 use Rattle.net_message.specs.declared.message.Message.TheVariants as message
-use Rattle.sp_call_results.specs.Held.{AreCallResults, left_at, references_of_results}
-use Rattle.sp_call_results.specs.declared.call_results.CallResults.{CallResults}
-use Rattle.sp_connections.specs.Tables.{seen as shown}
-use Rattle.sp_connections.specs.declared.connection.Connection.{Connection as Shown}
+use Rattle.sp_results.specs.Held.{AreCallResults, left_at, references_of_results}
+use Rattle.sp_results.specs.declared.call_results.CallResults.{CallResults}
+use Rattle.sp_requests.specs.Tables.{seen as shown}
+use Rattle.sp_requests.specs.declared.connection.Connection.{Connection as Shown}
 use Rattle.sp_requests.specs.Asking.{asks_by, first_of}
 use Rattle.sp_requests.specs.declared.asked.Asker.TheVariants as asker
 use Rattle.sp_requests.specs.declared.asked.ResultKind.{ResultKind}

@@ -5,7 +5,7 @@ use Rattle.sp_rules.specs.State.{State, KeptResult, ParkedFrame}
 use Rattle.sp_parked.specs.declared.parked.Parked.{Parked}
 use Rattle.sp_transport.specs.Transports.{IsTransport}
 use Rattle.sp_transport.specs.declared.transport.Transport.{Transport}
-use Rattle.sp_call_results.specs.declared.call_results.CallResults.{CallResults}
+use Rattle.sp_results.specs.declared.call_results.CallResults.{CallResults}
 use Rattle.sp_living.specs.Frames.{with_parked}
 use Rattle.sp_living.specs.Livings.{IsLiving}
 use Rattle.sp_living.specs.Parts.{AreParkedIn, AreResults}

@@ -2,8 +2,8 @@
 use Rattle.std.proofs.Common.{◌≡◌, ℕ, Bool, List, Option, None, Some, refl, sym, ap, ◌∙◌}
 use Rattle.std.specs.Prelude.{find, option_map}
 use Rattle.dgc_client.specs.History as lease_events
-use Rattle.sp_connections.specs.Tables.{seen}
-use Rattle.sp_connections.specs.declared.connection.Connection.{Connection as Shown}
+use Rattle.sp_requests.specs.Tables.{seen}
+use Rattle.sp_requests.specs.declared.connection.Connection.{Connection as Shown}
 use Rattle.sp_rules.specs.Frames.{group_told, tells_on}
 use Rattle.sp_rules.specs.Lists.{with_some}
 use Rattle.sp_rules.specs.ParkedFrames.{remove_requests}

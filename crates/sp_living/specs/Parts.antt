@@ -7,8 +7,8 @@ use Rattle.sp_rules.specs.Runs.{AreRecorded}
 use Rattle.sp_rules.specs.State.{Living, KeptResult}
 use Rattle.sp_rules.specs.State as rules
 use Rattle.sp_tasks.specs.Rows.{TaskRow, TaskTable}
-use Rattle.sp_call_results.specs.Held.{AreCallResults, of_roots}
-use Rattle.sp_call_results.specs.declared.call_results.CallResults.{CallResults}
+use Rattle.sp_results.specs.Held.{AreCallResults, of_roots}
+use Rattle.sp_results.specs.declared.call_results.CallResults.{CallResults}
 use Rattle.sp_parked.specs.Parkings.{AreParked, parked_of}
 use Rattle.sp_parked.specs.declared.frame.ParkedFrame.{ParkedFrame}
 use Rattle.sp_parked.specs.declared.parked.Parked.{Parked}

@@ -13,8 +13,7 @@ ghost use Rattle.sp_living.specs.Steps.{give_reply};
 
 use crate::Living;
 use net_message::Message;
-use sp_call_classes::CallClasses;
-use sp_requests::Asked;
+use sp_requests::{Asked, CallClasses};
 use sp_tasks::{LentTask, Reply, copy_reply};
 use space_ids::{Ref, Row, Value};
 use std::alloc::AllocError;

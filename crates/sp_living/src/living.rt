@@ -1,15 +1,14 @@
 //! What lives in a space, and what is seen of it.
 
 ghost use Rattle.std.specs.Prelude.{◌≡◌, [], IfOk, Ok, map};
-ghost use Rattle.sp_call_results.specs.Held.{AreCallResults, of_roots};
+ghost use Rattle.sp_results.specs.Held.{AreCallResults, of_roots};
 ghost use Rattle.sp_rules.specs.Classes.{Setting};
 ghost use Rattle.sp_rules.specs.State.{State, opening};
 ghost use Rattle.sp_transport.specs.Transports.{IsTransport};
 ghost use Rattle.sp_living.specs.Views.{kept};
 
-use sp_call_results::CallResults;
 use sp_parked::Parked;
-use sp_results::Results;
+use sp_results::{CallResults, Results};
 use sp_tasks::Tasks;
 use sp_transport::Transport;
 use space_ids::Uuid;

@@ -1,7 +1,7 @@
 //! The program as a function of its arguments, a folder and its standard streams.
 
 ghost use Rattle.std.specs.Prelude.{◌≡◌, ◌<◌, ◌≤◌, ◌^◌, ℕ, List, map, string_bytes, IfOk, IfSome};
-ghost use Rattle.sp_reply_laws.specs.Told.{AreRemoteRules};
+ghost use Rattle.sp_behaviours.specs.Told.{AreRemoteRules};
 ghost use Rattle.sp_words.specs.CommandLine.{AsksCheck, AsksRun, AsksSim};
 ghost use Rattle.sp_main.specs.Folders.{AreFilesOf, AreRead, IsContent, told_by};
 ghost use Rattle.sp_main.specs.Replies.{Fails, IsPlayed, IsReply, Replies};
@@ -10,7 +10,7 @@ ghost use Rattle.sp_words.specs.Requests.{run_words, sim_words};
 use cf_reader::MAX_LEN;
 use dev_io::{ReadError, StdSource, read_bytes};
 use net_message::Digest;
-use sim_spaces::{Homes, class_digest};
+use sim_spaces::{ProgramSpaces, class_digest};
 use sim_worlds::{ScriptFault, play_script};
 use sp_call_set::CallSet;
 use sp_files::{ClassBytes, Content, check_classes, program_of};
@@ -158,8 +158,8 @@ fn script_report<F: Folder>(
         Content::Unreadable => return unreadable_report(alloc, path),
     };
     let classes = CallSet::new(alloc, program)?;
-    let homes = Homes::new(alloc, program, &classes, digest);
-    match play_script(alloc, &homes, &script) {
+    let origin = ProgramSpaces::new(alloc, program, &classes, digest);
+    match play_script(alloc, &origin, &script) {
         Ok(text) => Ok(played_report(text)),
         Err(ScriptFault::BadLine(number)) => bad_line_report(alloc, number),
         Err(ScriptFault::Memory) => Err(AllocError),

@@ -28,8 +28,8 @@ use Rattle.sp_rules.specs.State.{State, Living, Request, Asked, Calls, LooksUp, 
 use Rattle.sp_rules.proofs.FuelOfSpaces.{total-append}
 use Rattle.sp_rules.proofs.AllLemmas.{all-filter}
 use Rattle.sp_laws.specs.Inbound.{opens, OpensOnce}
-use Rattle.sp_call_laws.specs.Directions.{FramesGoTheirWay}
-use Rattle.sp_world_laws.specs.Delivered.{came_on, frame_of, frame_in, sent_on}
+use Rattle.sp_laws.specs.Directions.{FramesGoTheirWay}
+use Rattle.sp_order_laws.specs.Delivered.{came_on, frame_of, frame_in, sent_on}
 use Rattle.sp_order_laws.specs.Answering.{Exchange, CallReply, GroupReply, ResultAck, asked_in, answered_in, times, times_asked, times_answered, parked_for, task_for, under_way, FramesAreAnsweredOnce}
 use Rattle.sp_order_laws.proofs.NoteLemmas.{flat-append}
 use Rattle.sp_order_laws.proofs.RisingHistories.{keep_each}

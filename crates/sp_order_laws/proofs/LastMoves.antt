@@ -24,8 +24,8 @@ use Rattle.sp_rules.specs.Space
 use Rattle.sp_rules.specs.State as state
 use Rattle.sp_rules.specs.State.{State, Living, Request, Asked, Calls, LooksUp, Tells, Waits, Connection, ParkedFrame, connection_to, is_open, send, opening}
 use Rattle.sp_rules.proofs.AllLemmas.{all-weaken, all-append, all-more, all-filter, all-first, all-found}
-use Rattle.sp_world_laws.specs.Delivered.{came_on, frame_of}
-use Rattle.sp_world_laws.specs.Ends.{IsOneOf}
+use Rattle.sp_order_laws.specs.Delivered.{came_on, frame_of}
+use Rattle.sp_order_laws.specs.Ends.{IsOneOf}
 use Rattle.sp_order_laws.specs.Answering.{CallReply, GroupReply, ResultAck}
 use Rattle.sp_order_laws.specs.LastCalls.{LastCame, LastCallsCame}
 use Rattle.sp_order_laws.specs.Rising.{call_numbers}

@@ -8,9 +8,9 @@ use Rattle.sp_rules.specs.Laws.{AllOf, RisesWithin}
 use Rattle.sp_rules.specs.State.{State, Connection}
 use Rattle.sp_rules.specs.Worlds.{World, run, new_world}
 use Rattle.sp_rules.proofs.AllLemmas.{all-found, found-is}
-use Rattle.sp_call_laws.specs.Directions.{FramesGoTheirWay}
-use Rattle.sp_world_laws.specs.Delivered.{came_on, WhatComesWasSent}
-use Rattle.sp_world_laws.specs.Ends.{IsOneOf}
+use Rattle.sp_laws.specs.Directions.{FramesGoTheirWay}
+use Rattle.sp_order_laws.specs.Delivered.{came_on, WhatComesWasSent}
+use Rattle.sp_order_laws.specs.Ends.{IsOneOf}
 use Rattle.sp_order_laws.specs.LastCalls.{LastCame, IsAboveTheLast, CallsComeAboveTheLast}
 use Rattle.sp_order_laws.specs.Rising.{call_numbers, NumbersRiseIn}
 use Rattle.sp_order_laws.proofs.LastMoves.{last_calls_came}

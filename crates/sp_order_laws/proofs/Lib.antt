@@ -12,3 +12,30 @@ mod AnsweringLaws
 mod PlaceWorlds
 pub mod LastMoves
 pub mod LastWorlds
+mod ListLemmas
+mod QueueLemmas
+pub mod DeliveryLemmas
+mod CameLemmas
+mod EndLemmas
+pub mod TurnLemmas
+pub mod RowLemmas
+pub mod FirstLemmas
+pub mod TableLemmas
+pub mod HandShakeLemmas
+pub mod StayMoves
+pub mod StayRules
+pub mod StayFrames
+pub mod StayLaws
+pub mod ResultStays
+pub mod RowStays
+pub mod WelcomeLemmas
+pub mod AnswerFinds
+pub mod WelcomeFrames
+pub mod WorldStays
+pub mod UnbrokenLaws
+pub mod SenderLemmas
+pub mod SenderWorlds
+pub mod OrderRules
+pub mod OrderLaws
+pub mod HeardLemmas
+pub mod TimeLemmas

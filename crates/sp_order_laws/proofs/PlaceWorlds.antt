@@ -17,9 +17,9 @@ use Rattle.sp_rules.specs.Space
 use Rattle.sp_rules.specs.State.{State, Request, Asked, Calls, LooksUp, Tells}
 use Rattle.sp_rules.specs.Worlds.{World, Space, Dialler, Accepter, Pipe, run, new_world}
 use Rattle.sp_laws.specs.Waiting.{count}
-use Rattle.sp_call_laws.specs.Directions.{FramesGoTheirWay}
-use Rattle.sp_world_laws.specs.Delivered.{came_on, sent_on, AreSomeOf, Delivers, WhatComesWasSent}
-use Rattle.sp_world_laws.specs.Ends.{IsOneOf}
+use Rattle.sp_laws.specs.Directions.{FramesGoTheirWay}
+use Rattle.sp_order_laws.specs.Delivered.{came_on, sent_on, AreSomeOf, Delivers, WhatComesWasSent}
+use Rattle.sp_order_laws.specs.Ends.{IsOneOf}
 use Rattle.sp_order_laws.specs.Answering.{Exchange, CallReply, GroupReply, ResultAck, answered_in, result_in, reply_in, times, times_asked, times_answered, under_way}
 use Rattle.sp_order_laws.specs.Places.{waiting_to_go, CallsGoOutOnce, IsBetween, call_stands, call_answered, group_stands, result_stands, CallsStandOnceIn, EachCallStandsOnce, GroupsStandOnceIn, EachGroupIsAnsweredOnce, SentResult, ResultsStandOnceIn, EachResultIsAcknowledgedOnce}
 use Rattle.sp_order_laws.specs.Rising.{sequence_in, frames_in, call_numbers, sequence_numbers}

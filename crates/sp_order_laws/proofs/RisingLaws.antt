@@ -26,9 +26,9 @@ use Rattle.sp_rules.proofs.AllLemmas.{some-none, all-more, none-found}
 use Rattle.sp_rules.proofs.OwnLemmas.{unrefused}
 use Rattle.sp_rules.proofs.LineLemmas.{AreNumbered, none-of, or-none}
 use Rattle.sp_laws.specs.Inbound.{opens, opened, OpensOnce}
-use Rattle.sp_call_laws.specs.Directions.{opens_end, was_opened, HasOpened, GoesItsWay, FramesGoTheirWay}
-use Rattle.sp_call_laws.specs.Sent.{MaySend}
-use Rattle.sp_world_laws.specs.Delivered.{frame_in, sent_on}
+use Rattle.sp_laws.specs.Directions.{opens_end, was_opened, HasOpened, GoesItsWay, FramesGoTheirWay}
+use Rattle.sp_laws.specs.CallSent.{MaySend}
+use Rattle.sp_order_laws.specs.Delivered.{frame_in, sent_on}
 use Rattle.sp_order_laws.specs.Rising.{sequence_in, frame, frames_in, call_numbers, sequence_numbers, CallNumbersRise, SequenceNumbersRise}
 use Rattle.sp_order_laws.proofs.NoteLemmas.{append-none, flat-append, sent, sent-none}
 use Rattle.sp_order_laws.proofs.WalkRules.{Begins, happen_walk}

@@ -21,8 +21,8 @@ use Rattle.sp_rules.specs.State.{State, Request, Asked, Calls, LooksUp, Tells, S
 use Rattle.sp_rules.proofs.AllLemmas.{all-weaken, all-more, all-filter, all-map, all-first}
 use Rattle.sp_rules.proofs.LineLemmas.{AreNumbered, numbers-filter, row-numbers}
 use Rattle.sp_laws.specs.Waiting.{count}
-use Rattle.sp_call_laws.specs.Sent.{is_send}
-use Rattle.sp_world_laws.specs.Delivered.{frame_in}
+use Rattle.sp_laws.specs.CallSent.{is_send}
+use Rattle.sp_order_laws.specs.Delivered.{frame_in}
 use Rattle.sp_order_laws.specs.Rising.{sequence_in, frame}
 use Rattle.sp_order_laws.proofs.NoteLemmas.{append-none, flat-last, rises-some, AreBelow, sent, sent-quiet}
 use Rattle.sp_order_laws.proofs.WalkRules.{Owed, is_numbered, WalkParts, walk_parts, Moves, Walks, fail_parked_walk, each_walk}

@@ -9,8 +9,8 @@ use Rattle.sp_rules.specs.Laws.{AllOf, RisesWithin}
 use Rattle.sp_rules.specs.Space
 use Rattle.sp_rules.specs.Worlds.{Space, Accepter, run, new_world}
 use Rattle.sp_rules.proofs.AllLemmas.{all-weaken}
-use Rattle.sp_call_laws.specs.Directions.{FramesGoTheirWay}
-use Rattle.sp_world_laws.specs.Delivered.{came_on, sent_on, AreSomeOf, WhatComesWasSent}
+use Rattle.sp_laws.specs.Directions.{FramesGoTheirWay}
+use Rattle.sp_order_laws.specs.Delivered.{came_on, sent_on, AreSomeOf, WhatComesWasSent}
 use Rattle.sp_order_laws.specs.Rising.{sequence_in, frames_in, call_numbers, sequence_numbers, Rise, SendsInOrder, NumbersRise}
 use Rattle.sp_order_laws.proofs.NoteLemmas.{rises-after, rises-rest}
 use Rattle.sp_order_laws.proofs.RisingLaws.{call_numbers_rise, sequence_numbers_rise}

@@ -45,7 +45,7 @@ use Rattle.sp_rules.specs.Tasks.{Stand, Runs, AsksFor, HasEnded, stand, steps}
 use Rattle.sp_rules.proofs.AllLemmas.{found-is}
 use Rattle.sp_rules.proofs.ReadyLemmas.{ready-is}
 use Rattle.sp_rules.proofs.Stable.{new_row}
-use Rattle.sp_call_laws.specs.Sent.{is_send}
+use Rattle.sp_laws.specs.CallSent.{is_send}
 use Rattle.sp_order_laws.specs.Answering.{Exchange, CallReply, GroupReply, ResultAck}
 
 -- ---- what is owed

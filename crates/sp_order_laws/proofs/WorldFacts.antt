@@ -18,7 +18,7 @@ use Rattle.sp_rules.proofs.WorldLemmas.{all_hold}
 use Rattle.sp_laws.specs.Inbound.{OpensOnce}
 use Rattle.sp_laws.specs.Others.{IsOpenedOnce}
 use Rattle.sp_laws.proofs.OnceRules.{connections_are_opened_once}
-use Rattle.sp_world_laws.specs.Delivered.{outputs_in, outputs_at, AreSomeOf}
+use Rattle.sp_order_laws.specs.Delivered.{outputs_in, outputs_at, AreSomeOf}
 use Rattle.sp_order_laws.proofs.NoteLemmas.{rises-after, rises-rest}
 
 -- ---- spaces

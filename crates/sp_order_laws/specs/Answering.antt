@@ -13,7 +13,7 @@ use Rattle.sp_rules.specs.Space.{state_of, all_outputs}
 use Rattle.sp_rules.specs.State.{State, Living, Origin, Frame, ParkedFrame}
 use Rattle.sp_laws.specs.Inbound.{from_origin, OpensOnce}
 use Rattle.sp_laws.specs.Waiting.{count}
-use Rattle.sp_world_laws.specs.Delivered.{came_on, sent_on}
+use Rattle.sp_order_laws.specs.Delivered.{came_on, sent_on}
 use Rattle.sp_order_laws.specs.Rising.{sequence_in}
 
 -- ---- what is asked, and what is answered

@@ -6,8 +6,8 @@ use Rattle.sp_rules.specs.Laws.{AllOf}
 use Rattle.sp_rules.specs.Space.{state_of}
 use Rattle.sp_rules.specs.State.{Connection, connection_at}
 use Rattle.sp_rules.specs.Worlds.{World, Space, Pipe, WorldEvent, run, new_world}
-use Rattle.sp_world_laws.specs.Delivered.{came_on}
-use Rattle.sp_world_laws.specs.Ends.{IsOneOf}
+use Rattle.sp_order_laws.specs.Delivered.{came_on}
+use Rattle.sp_order_laws.specs.Ends.{IsOneOf}
 use Rattle.sp_order_laws.specs.Places.{IsBetween}
 use Rattle.sp_order_laws.specs.Rising.{call_numbers}
 

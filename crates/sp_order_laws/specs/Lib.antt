@@ -2,3 +2,17 @@ pub mod Answering
 pub mod Rising
 pub mod Places
 pub mod LastCalls
+pub mod Delivered
+pub mod InOrder
+pub mod Ends
+pub mod Hellos
+pub mod HandShakes
+pub mod Asked
+pub mod Welcome
+pub mod Results
+pub mod Told
+pub mod Unbroken
+pub mod Senders
+pub mod RequestOrder
+pub mod Heard
+pub mod InTime

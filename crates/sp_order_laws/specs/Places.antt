@@ -13,8 +13,8 @@ use Rattle.sp_rules.specs.State.{State, Request}
 use Rattle.sp_rules.specs.Worlds.{World, Space, Pipe, WorldEvent, run, new_world}
 use Rattle.sp_laws.specs.Inbound.{OpensOnce}
 use Rattle.sp_laws.specs.Waiting.{count}
-use Rattle.sp_world_laws.specs.Delivered.{came_on, sent_on}
-use Rattle.sp_world_laws.specs.Ends.{IsOneOf}
+use Rattle.sp_order_laws.specs.Delivered.{came_on, sent_on}
+use Rattle.sp_order_laws.specs.Ends.{IsOneOf}
 use Rattle.sp_order_laws.specs.Answering.{CallReply, GroupReply, ResultAck, times, times_asked, times_answered, under_way}
 use Rattle.sp_order_laws.specs.Rising.{frames_in, call_numbers}
 

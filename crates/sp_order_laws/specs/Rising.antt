@@ -12,7 +12,7 @@ use Rattle.sp_rules.specs.Origins.{IsTaken}
 use Rattle.sp_rules.specs.Space.{state_of, all_outputs}
 use Rattle.sp_rules.specs.Worlds.{World, Space, Pipe, WorldEvent, run, new_world}
 use Rattle.sp_laws.specs.Inbound.{OpensOnce}
-use Rattle.sp_world_laws.specs.Delivered.{came_on, sent_on}
+use Rattle.sp_order_laws.specs.Delivered.{came_on, sent_on}
 
 -- ---- numbers of frames
 

@@ -5,8 +5,8 @@ ghost use Rattle.sp_order_laws.specs.LastCalls.{CallsComeAboveTheLast, LastCalls
 ghost use Rattle.sp_order_laws.specs.Places.{CallsGoOutOnce, EachCallStandsOnce, EachGroupIsAnsweredOnce, EachResultIsAcknowledgedOnce};
 ghost use Rattle.sp_order_laws.specs.Rising.{CallNumbersRise, NumbersRise, SequenceNumbersRise};
 
-use sp_call_laws::laws::frames_go_their_way;
-use sp_world_laws::laws::what_comes_was_sent;
+use crate::worlds::what_comes_was_sent;
+use sp_laws::calls::frames_go_their_way;
 
 /// After every history that a space took, in which no number of a connection comes again, the numbers of
 /// the calls and lookups that it sent on a connection rise, in the order in which it sent them.

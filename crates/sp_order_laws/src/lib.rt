@@ -1,5 +1,15 @@
-//! In what order spaces of a world send and answer: numbers rise, and each frame is answered once. Laws of
-//! the rules of spaces and worlds, each the contract of a function. There is no other code here.
+//! What holds between the spaces of a world, and in what order they send and answer: laws of the rules of spaces and
+//! worlds, each the contract of a function. There is no other code here.
+//!
+//! | Module | Laws of |
+//! |---|---|
+//! | `worlds` | what spaces send one another: what comes was sent, and a call ends by its callee's answer or by a failure |
+//! | `laws` | order: numbers rise, and each frame is answered once |
+//! | `hellos` | how connections begin: both ends say Hello, and ask and answer only once they heard one |
+//! | `answers` | answers, which find what they answer, so no connection is closed where nothing fails |
 #![tactic(auto)]
 
+pub mod answers;
+pub mod hellos;
 pub mod laws;
+pub mod worlds;

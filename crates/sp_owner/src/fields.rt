@@ -5,11 +5,11 @@ ghost use Rattle.sp_rules.specs.Behaviours.{Create, Put};
 ghost use Rattle.sp_rules.specs.Classes.{Classes, Setting, blank};
 ghost use Rattle.sp_rules.specs.LivingTasks.{after_op, is_full, next_object};
 ghost use Rattle.sp_rules.specs.State.{State, Written};
-ghost use Rattle.sp_call_classes.specs.ClassSets.{kind_of};
+ghost use Rattle.sp_requests.specs.ClassSets.{kind_of};
 ghost use Rattle.sp_store.specs.Stores.{blanks, field_after};
 
 use crate::Owner;
-use sp_call_classes::{ClassSet, FieldKind};
+use sp_requests::{ClassSet, FieldKind};
 use space_ids::{ClassId, ObjId, Value};
 use std::alloc::{AllocError, Global};
 

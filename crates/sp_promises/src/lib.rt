@@ -3,7 +3,7 @@
 
 pub use running::run;
 pub use sp_world::{
-    CoreFault, Dial, End, Event, Inhabitant, Output, StartFault, Unfinished, World, WorldEvent,
+    CoreFault, Dial, End, Event, Output, StartFault, Unfinished, World, WorldEvent, WorldSpace,
 };
 
 mod running;

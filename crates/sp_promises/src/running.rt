@@ -7,17 +7,17 @@ ghost use Rattle.sp_laws.specs.Made.{ReferencesAreMade};
 ghost use Rattle.sp_laws.specs.Waiting.{EndedCallsStayEnded};
 ghost use Rattle.sp_rules.specs.Laws.{FailuresRemoveNothing, OnlySweepsWithdraw, SweepIsExact, TasksAreRuns};
 ghost use Rattle.sp_rules.specs.Worlds.{World as Rules, run as after_all};
-ghost use Rattle.sp_tree_laws.specs.Roots.{RootsSpendTheirFuel};
+ghost use Rattle.sp_laws.specs.Roots.{RootsSpendTheirFuel};
 ghost use Rattle.sp_world.specs.Happenings.{happening_of};
 ghost use Rattle.sp_world.specs.Waitings.{IsWorld, is_settled};
-ghost use Rattle.sp_world_laws.specs.Ends.{CallsEndByCallees};
+ghost use Rattle.sp_order_laws.specs.Ends.{CallsEndByCallees};
 
 use sp_held_laws::laws::{calls_find_their_objects, nothing_held_is_lost};
 use sp_laws::laws::{calls_that_come_are_once, ended_calls_stay_ended, every_reference_is_made};
 use sp_rules::laws::{failures_remove_nothing, sweeps_are_exact, tasks_are_runs};
-use sp_tree_laws::laws::roots_spend_their_fuel;
-use sp_world::{Inhabitant, Unfinished, World, WorldEvent};
-use sp_world_laws::laws::calls_end_by_callees;
+use sp_laws::trees::roots_spend_their_fuel;
+use sp_world::{WorldSpace, Unfinished, World, WorldEvent};
+use sp_order_laws::worlds::calls_end_by_callees;
 
 /// Returns the world after events, oldest first: any number of spaces, any frame lost, any read or write failed.
 /// At out of memory it returns the world after the first of them, and how many these are; the others have not
@@ -25,7 +25,7 @@ use sp_world_laws::laws::calls_end_by_callees;
 ///
 /// The world is that of the rules of spaces (`world`, `unfinished`), and the other clauses say what holds of each
 /// run of them, whatever the spaces are and whatever happens.
-pub fn run<S: Inhabitant + Drop>(
+pub fn run<S: WorldSpace + Drop>(
     world: World<S>,
     events: &[WorldEvent],
 ) -> Result<World<S>, Unfinished<S>>

@@ -5,3 +5,9 @@ pub mod PeerLemmas
 pub mod EndLemmas
 pub mod AlikeLemmas
 pub mod UnansweredLemmas
+pub mod TableLemmas
+pub mod CopyLemmas
+pub mod RowLemmas
+pub mod LineLemmas
+pub mod AskedLemmas
+pub mod CoreLemmas

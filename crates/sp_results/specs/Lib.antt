@@ -1,1 +1,4 @@
 pub mod Waiting
+pub mod Ended
+pub mod Held
+pub mod Numbers

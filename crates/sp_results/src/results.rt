@@ -1,4 +1,4 @@
-//! Results that wait to be acknowledged.
+//! Results of roots and lookups, which wait to be acknowledged.
 
 ghost use Rattle.std.specs.Prelude.{◌≡◌, ◌++◌, ◌||◌, [], ◌∷◌, false, filter, IfOk, OnOk, OnErr, option_copied};
 ghost use Rattle.std.specs.List.{list_any};

@@ -1,5 +1,5 @@
 -- The machine of the only task of a space: how it begins, and what its task's instructions and the replies of the space make of it.
-use Rattle.std.proofs.Common.{◌≡◌, ℕ, zero, suc, ◌+◌, Bool, true, false, List, [], ◌∷◌, ◌++◌, Option, Some, None, refl, sym, ap, subst, ◌∙◌, arith}
+use Rattle.std.proofs.Common.{◌≡◌, ℕ, suc, ◌+◌, Bool, true, false, List, [], ◌∷◌, ◌++◌, Option, Some, None, refl, sym, ap, subst, ◌∙◌, arith}
 use Rattle.std.specs.Prelude.{not, ◌&&◌, if◌then◌else◌, nat_le, Result, Ok, Err}
 use Rattle.std.specs.Str.{bytes_eq}
 use Rattle.std.proofs.lemmas.Bool.{false≢true}
@@ -10,11 +10,12 @@ use Rattle.cf_reader.specs.declared.class_file.Code.{Code}
 use Rattle.space_ids.specs.declared.value.Value.{Value}
 use Rattle.uuid.specs.declared.Uuid.{Uuid}
 use Rattle.sp_behaviours.specs.Behaviours.{limits_of, op_at, op_of, reply_to, IsOfStore}
-use Rattle.sp_behaviours.specs.Follows.{Follows, HoldsAsked, PlaysOn, stand_before, stand_of, waiting}
-use Rattle.sp_behaviours.proofs.Following.{asks-stay, replies-follow, stands, steps-follow}
+use Rattle.sp_behaviours.specs.Follows.{Follows, HoldsAsked, PlaysOn}
+use Rattle.sp_behaviours.proofs.Following.{replies-follow, stands, steps-follow}
+use Rattle.sp_behaviours.proofs.AskedLemmas.{AsksAt, asks-at, asks-follow, store-keeps}
 use Rattle.sp_behaviours.proofs.Starting.{starts-follow}
-use Rattle.sp_reply_laws.proofs.TakenLemmas.{store_replies_are_taken}
-use Rattle.sp_classes.specs.Classes.{classes_of}
+use Rattle.sp_behaviours.proofs.TakenLemmas.{store_replies_are_taken}
+use Rattle.sp_behaviours.specs.Classes.{classes_of}
 use Rattle.sp_rules.specs.Behaviours as rules
 use Rattle.sp_rules.specs.Classes.{Setting}
 use Rattle.sp_rules.specs.Events.{Event}
@@ -30,7 +31,6 @@ use Rattle.sp_runs.proofs.Moved.{IsOverSo, due-append, made-append, over-so, pla
 use Rattle.sp_runs.proofs.OwnValues.{in-own}
 use Rattle.sp_runs.proofs.Sets.{IsSet, plays-on, setting-is}
 use Rattle.ver_frames.specs.Method.{is_static}
-use Rattle.vm_act.specs.Next.{Next, On, Ends, Asks, Stuck}
 use Rattle.vm_act.specs.declared.asked.Asked.{Asked}
 use Rattle.vm_act.specs.declared.asked.Asked.TheVariants as asked
 use Rattle.vm_act.specs.declared.asked.Reply.{Reply}
@@ -39,9 +39,8 @@ use Rattle.vm_step.specs.Begin.{begin_refusal, receiver_refusal}
 use Rattle.vm_act.specs.declared.ending.Thrown.TheVariants.{OutOfMemoryError, StackOverflowError}
 use Rattle.vm_step.specs.Ends.{Threw}
 use Rattle.vm_step.specs.Limited.{AlwaysKeepsWithin}
-use Rattle.vm_step.specs.Run.{State, Running, Waits, Over, Lost, AreDue, FitsFuel, IsDue, IsNeverStuck, IsNotLost, after, answer, fuel_after, played, run, step}
+use Rattle.vm_step.specs.Run.{State, Running, Waits, Over, AreDue, FitsFuel, IsDue, IsNeverStuck, IsNotLost, answer, fuel_after, played, run}
 use Rattle.vm_step.specs.Start.{fill, have_room, have_rows, no_references, opening_machine, opening_state, refusal, startable, started, takes_crossing, with_arguments}
-use Rattle.vm_step.specs.Steps as insns
 use Rattle.vm_step.specs.Subjects.{Declared}
 use Rattle.vm_step.specs.Task.{IsOfSet, Tasked, fuel_left}
 use Rattle.vm_step.specs.declared.fault.StartFault.{StartFault}
@@ -175,28 +174,6 @@ module _ (links : Links) (g : Setting) (start : State) where
 
 -- ---- what it asks
 
--- The machine stands at this operation: one step more leads to where it waits.
-pub record AsksAt (links : Links) (s : State) (op : rules.Op) : Type 0 where
-  pub asked : Asked
-  pub machine : Machine
-  pub fuel : ℕ
-  pub waits : run links 1 s ≡ Waits asked machine fuel
-  pub is : op_at links.classes asked machine ≡ op
-
-asks-at : (links : Links) (s : State) (op : rules.Op) → stand_of links s ≡ AsksFor op → AsksAt links s op
-unfolding run step
-asks-at links (Running m zero) op e = absurd (cc)
-asks-at links (Running m (suc fuel)) op e = by (insns.step links m) refl e
-  where
-    by : (n : Next) → insns.step links m ≡ n → stand_before links n ≡ AsksFor op → AsksAt links (Running m (suc fuel)) op
-    by (On m') is e = absurd (cc)
-    by (Ends ending) is e = absurd (cc)
-    by (Asks a m') is e = let same : op_at links.classes a m' ≡ op = cc in record { asked = a; machine = m'; fuel = fuel; waits = ap (λ (n : Next). after m.heap.cells n fuel) is; is = same }
-    by Stuck is e = absurd (cc)
-asks-at links (Waits a m fuel) op e = let same : op_at links.classes a m ≡ op = cc in record { asked = a; machine = m; fuel = fuel; waits = refl; is = same }
-asks-at links (Over end fuel) op e = absurd (cc)
-asks-at links Lost op e = absurd (cc)
-
 -- it calls no object of another space, since its task holds a reference to none
 store-asked : (links : Links) (g : Setting) (t : tasks.Task) (op : Asked) (m : Machine) (fuel : ℕ) → AreOwn g t.held → Follows links g t (Waits op m fuel) → IsOfStore op
 store-asked links g t (asked.Create class) m fuel own follows = tt
@@ -214,13 +191,7 @@ store-is classes (asked.Get object slot) m store = refl
 store-is classes (asked.Put object slot value) m store = refl
 store-is classes (asked.Call target method count) m store = absurd store
 
--- nothing is lent for it, and its reply gives nothing back
-store-keeps : (op : Asked) (t : tasks.Task) → IsOfStore op → waiting op t ≡ t
-store-keeps (asked.Create class) t store = refl
-store-keeps (asked.Get object slot) t store = refl
-store-keeps (asked.Put object slot value) t store = refl
-store-keeps (asked.Call target method count) t store = absurd store
-
+-- the reply to it gives nothing back
 store-fuel : (op : Asked) (given : Reply) (fuel : ℕ) → IsOfStore op → FitsFuel op given fuel
 store-fuel (asked.Create class) given fuel store = tt
 store-fuel (asked.Get object slot) given fuel store = tt
@@ -278,13 +249,6 @@ module _ (links : Links) (g : Setting) (start : State) (t : tasks.Task) (c : Fol
       (subst (Follows links g (tasks.answer g r t)) (sym there) (reply-follows links g t op m fuel r given plays follows is due store))
       (reply-counted links s op m fuel given waits c.follows.never_stuck follows.never_stuck due store)
 
-  -- at one that asks the task follows the machine as it waits
-  asks-follow : (op : Asked) (m : Machine) (fuel : ℕ) → run links 1 (played links c.moves start) ≡ Waits op m fuel → Follows links g t (Waits op m fuel)
-  asks-follow op m fuel waits =
-      let s = played links c.moves start in
-      let stays : tasks.steps 1 t ≡ t = one-step t ∙ asks-stay links g t s op m fuel c.follows waits in
-      subst (Follows links g t) waits (subst (λ (u : tasks.Task). Follows links g u (run links 1 s)) stays (steps-follow links g t s 1 c.follows))
-
 pub asks-store : (links : Links) (g : Setting) (start : State) (h : List Event) (id : ℕ) (t : Living) (op : rules.Op) → IsSet links → g.classes ≡ classes_of links → IsTaken g h
     → task_at (state_of g h) id ≡ Some t → AreOwn g t.task.held → FollowsFrom links g start t.task → tasks.stand t.task ≡ AsksFor op → OnStore links g start h t.task op
 asks-store links g start h id t op set same taken lives own c asks =
@@ -293,7 +257,7 @@ asks-store links g start h id t op set same taken lives own c asks =
   where
     by : AsksAt links (played links c.moves start) op → OnStore links g start h t.task op
     by at =
-        let follows = asks-follow links g start t.task c at.asked at.machine at.fuel at.waits in
+        let follows = asks-follow links g t.task s c.follows at.asked at.machine at.fuel at.waits in
         let store = store-asked links g t.task at.asked at.machine at.fuel own follows in
         let is : op ≡ op_of [] at.asked = sym at.is ∙ store-is links.classes at.asked at.machine store in
         let reply = store_replies_are_taken links g h id t at.asked at.machine at.fuel (setting-is links g set same) taken lives follows store in

@@ -2,13 +2,13 @@
 use Rattle.std.proofs.Common.{◌≡◌, List, Some, sym, ap, ◌∙◌}
 use Rattle.cls_link.specs.Links.{Links, AreLinks}
 use Rattle.sp_behaviours.specs.Follows.{PlaysOn}
-use Rattle.sp_classes.specs.Classes.{classes_of}
+use Rattle.sp_behaviours.specs.Classes.{classes_of}
 use Rattle.sp_files.specs.Programs.{IsProgram}
 use Rattle.sp_files.specs.declared.files.ClassBytes.{ClassBytes}
-use Rattle.sp_reply_laws.specs.Calls.{IsSettingOf}
-use Rattle.sp_reply_laws.specs.Told.{AreRemoteRules}
-use Rattle.sp_reply_laws.proofs.CrossingLemmas.{remote_rules_are_kept}
-use Rattle.sp_reply_laws.proofs.SetLemmas.{memory_named}
+use Rattle.sp_behaviours.specs.Calls.{IsSettingOf}
+use Rattle.sp_behaviours.specs.Told.{AreRemoteRules}
+use Rattle.sp_behaviours.proofs.CrossingLemmas.{remote_rules_are_kept}
+use Rattle.sp_behaviours.proofs.SetLemmas.{memory_named}
 use Rattle.sp_rules.specs.Classes.{Classes, Setting}
 use Rattle.vm_step.specs.Sound.{IsSoundSet}
 use Rattle.vm_step.proofs.Sound.{sound_set}

@@ -2,7 +2,7 @@
 use Rattle.std.proofs.Common.{◌≡◌, ℕ, ◌-◌, ◌≤◌, List, [], Option, None, Some, sym, ap, subst, ◌∙◌, arith}
 use Rattle.std.specs.Prelude.{not, find, option_map, unwrap_or}
 use Rattle.cls_link.specs.Links.{Links}
-use Rattle.sp_classes.specs.Classes.{classes_of}
+use Rattle.sp_behaviours.specs.Classes.{classes_of}
 use Rattle.sp_rules.specs.Classes.{Setting}
 use Rattle.sp_rules.specs.Events.{Event, Output}
 use Rattle.sp_rules.specs.Origins.{IsTaken}

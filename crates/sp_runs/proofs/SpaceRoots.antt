@@ -17,7 +17,7 @@ use Rattle.sp_rules.specs.Refusals.{Refusal as Refused, Busy, NotHeld, WornOut, 
 use Rattle.sp_rules.specs.Space.{state_of}
 use Rattle.sp_rules.specs.State.{State, opening}
 use Rattle.sp_rules.specs.Tasks.{start}
-use Rattle.sp_classes.specs.Starts.{refusal_of, start_refusal_in}
+use Rattle.sp_behaviours.specs.Starts.{refusal_of, start_refusal_in}
 use Rattle.sp_files.specs.declared.outcome.RunOutcome.{RunOutcome}
 use Rattle.sp_runs.specs.Going.{EndsOver, GoesOn, setting_of}
 use Rattle.sp_runs.specs.InSpace.{AreLimits, EndsAs, RunsInSpace, begins}

@@ -19,7 +19,7 @@ use Rattle.sp_rules.specs.Worlds.{events_after, events_at, events_of_op, step_ev
 use Rattle.sp_rules.proofs.OwnLemmas.{first-of, not-false, unrefused}
 use Rattle.sp_behaviours.specs.Behaviours.{op_of, told, IsOfStore}
 use Rattle.sp_behaviours.proofs.OwnSteps.{answer-gives, answer-throws, step-ends, step-plain}
-use Rattle.sp_classes.specs.Classes.{classes_of}
+use Rattle.sp_behaviours.specs.Classes.{classes_of}
 use Rattle.sp_runs.specs.Going.{AreOwn, EndsOver, FollowsFrom, IsAlone, IsOnly}
 use Rattle.sp_runs.specs.InSpace.{answers_to, grown, lowest_ready}
 use Rattle.sp_runs.proofs.Alone.{PutsOwn, back-alone, back-only, back-silent, commit-alone, commit-only, commit-silent, finish-answers, finish-leaves, only-there, replied}

@@ -5,7 +5,7 @@ use Rattle.dgc_client.specs.Table as client
 use Rattle.space_ids.specs.declared.ids.Ref.{Ref}
 use Rattle.sp_behaviours.specs.Behaviours.{told}
 use Rattle.sp_behaviours.specs.Follows.{Follows}
-use Rattle.sp_classes.specs.Classes.{classes_of}
+use Rattle.sp_behaviours.specs.Classes.{classes_of}
 use Rattle.sp_rules.specs.Classes.{Setting}
 use Rattle.sp_rules.specs.Events.{Event, Output, Ended}
 use Rattle.sp_rules.specs.Laws.{AllOf}

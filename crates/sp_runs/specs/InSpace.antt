@@ -5,7 +5,7 @@ use Rattle.cls_link.specs.Links.{Links}
 use Rattle.cls_link.specs.declared.linked_code.MethodId.{MethodId}
 use Rattle.space_ids.specs.declared.value.Value.{Value}
 use Rattle.sp_behaviours.specs.Behaviours.{told}
-use Rattle.sp_classes.specs.Classes.{classes_of}
+use Rattle.sp_behaviours.specs.Classes.{classes_of}
 use Rattle.sp_rules.specs.Classes.{Setting}
 use Rattle.sp_rules.specs.Events.{Event, Output, Ended, Root}
 use Rattle.sp_rules.specs.Origins.{IsTaken}

@@ -1,9 +1,9 @@
 //! From the words of `serve` and `call` to a space of the classes that they name.
 
 ghost use Rattle.std.specs.Prelude.{◌≡◌};
-ghost use Rattle.sp_classes.specs.Classes.{classes_of};
-ghost use Rattle.sp_players.specs.Limits.{AreLimits};
-ghost use Rattle.sp_reply_laws.specs.Told.{AreRemoteRules};
+ghost use Rattle.sp_behaviours.specs.Classes.{classes_of};
+ghost use Rattle.sp_machines.specs.Limits.{AreLimits};
+ghost use Rattle.sp_behaviours.specs.Told.{AreRemoteRules};
 
 use crate::exports::export_of;
 use crate::serving::run_space;

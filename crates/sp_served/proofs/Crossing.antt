@@ -10,7 +10,7 @@ use Rattle.vm_step.proofs.program.Program.TheSendSync as program
 use Rattle.vm_step.specs.contracts.task.Task as Task
 use Rattle.indexmap.proofs.map.IndexMap.TheSendSync as map
 use Rattle.sp_call_set.proofs.call_set.CallSet.TheSendSync as classes
-use Rattle.sp_players.specs.contracts.player.Player as Player
+use Rattle.sp_machines.specs.contracts.task_machine.TaskMachine as TaskMachine
 use Rattle.sp_tasks.proofs.behaviour.Stand.TheSendSync as stand
 use Rattle.sp_core.proofs.lent_task.LentTask.TheSendSync as lent
 use Rattle.sp_core.proofs.space_core.SpaceCore.TheSendSync as core
@@ -28,7 +28,7 @@ use Rattle.sp_served.specs.contracts.served_space.ServedSpace as Served
 task_send : IsSend Task.the_row
 task_send = search (sendable, crosses, ghost.the_send) depth 60 fits 30000
 
-player_send : (κ : NamedLft) → IsSend (Player.the_row κ)
+player_send : (κ : NamedLft) → IsSend (TaskMachine.the_row κ)
 player_send κ = search (task_send, program.the_sync, sendable, crosses) depth 60 fits 30000
 
 rows_send : (κ : NamedLft) → IsSend (Rows.the_row κ)

@@ -1,9 +1,9 @@
 //! A space that is served, with the program that its tasks run.
 
 ghost use Rattle.std.specs.Prelude.{◌≡◌};
-ghost use Rattle.sp_classes.specs.Classes.{classes_of};
-ghost use Rattle.sp_players.specs.Limits.{AreLimits};
-ghost use Rattle.sp_reply_laws.specs.Told.{AreRemoteRules};
+ghost use Rattle.sp_behaviours.specs.Classes.{classes_of};
+ghost use Rattle.sp_machines.specs.Limits.{AreLimits};
+ghost use Rattle.sp_behaviours.specs.Told.{AreRemoteRules};
 
 use net_message::Digest;
 use sim_spaces::{class_name_of, method_of, shown_as};

@@ -10,13 +10,13 @@ use Rattle.uuid.specs.declared.Uuid.{Uuid}
 use Rattle.sp_behaviours.specs.Behaviours.{limits_of}
 use Rattle.sp_behaviours.specs.Follows.{Follows, PlaysOn}
 use Rattle.sp_behaviours.proofs.Starting.{starts-follow}
-use Rattle.sp_classes.specs.Classes.{class_named, classes_of}
-use Rattle.sp_classes.specs.Starts.{start_refusal_in}
+use Rattle.sp_behaviours.specs.Classes.{class_named, classes_of}
+use Rattle.sp_behaviours.specs.Starts.{start_refusal_in}
 use Rattle.sp_events.specs.Events.{event_of_root}
 use Rattle.sp_events.specs.FaultNames.{start_refusal}
 use Rattle.sp_events.specs.declared.event.Root.{Root}
 use Rattle.sp_living.specs.Views.{recorded_in, seen_row}
-use Rattle.sp_reply_laws.specs.Told.{AreRemoteRules}
+use Rattle.sp_behaviours.specs.Told.{AreRemoteRules}
 use Rattle.sp_rules.specs.Classes.{Classes, Setting}
 use Rattle.sp_rules.specs.Events.{Event, Root as Roots}
 use Rattle.sp_rules.specs.Refusals.{refusal}
@@ -36,14 +36,14 @@ use Rattle.vm_step.specs.declared.fault.StartFault.{StartFault}
 use Rattle.vm_step.specs.declared.limits.Limits.{Limits}
 use Rattle.sp_space.specs.Hands.{LivesAs}
 use Rattle.sp_space.specs.Machines.{machine_at}
-use Rattle.sp_players.specs.Players.{IsLevel, IsPlayed, IsUntouched, Played, reached}
-use Rattle.sp_players.specs.Limits.{AreLimits}
+use Rattle.sp_machines.specs.Players.{IsLevel, IsPlayed, IsUntouched, Played, reached}
+use Rattle.sp_machines.specs.Limits.{AreLimits}
 use Rattle.sp_space.specs.Spaces.{IsFree, IsOf, IsSpace, Stands}
 use Rattle.sp_space.specs.declared.machines.Machines.{Machines}
 use Rattle.sp_space.specs.declared.parts.Parts.{Parts}
 use Rattle.sp_space.proofs.EventLemmas.{KeepsLending, event-space, space-core}
 use Rattle.sp_space.proofs.FreeLemmas.{still-free}
-use Rattle.sp_players.proofs.BeginLemmas.{no-machine, plays-on}
+use Rattle.sp_machines.proofs.BeginLemmas.{no-machine, plays-on}
 use Rattle.sp_space.proofs.StandLemmas.{machine-change}
 
 -- ---- a new space

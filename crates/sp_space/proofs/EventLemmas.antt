@@ -3,18 +3,18 @@ use Rattle.std.proofs.Common.{◌≡◌, ◌⊎◌, inl, inr, ℕ, ◌+◌, Bool
 use Rattle.std.specs.Prelude.{is_some, length}
 use Rattle.std.proofs.lemmas.Bool.{false≢true, true≢false}
 use Rattle.cls_link.specs.Links.{Links}
-use Rattle.sp_classes.specs.Classes.{classes_of}
+use Rattle.sp_behaviours.specs.Classes.{classes_of}
 use Rattle.sp_events.specs.Events.{event_of, event_of_root}
 use Rattle.sp_events.specs.declared.event.Event.{Event as Told}
 use Rattle.sp_events.specs.declared.event.Event.TheVariants as told
 use Rattle.sp_events.specs.declared.event.Root.{Root}
-use Rattle.sp_record_laws.specs.Changes.{GoesOn, HasBegun, IsAnswered, IsOfSpace}
-use Rattle.sp_record_laws.specs.Calls.{IsAtCall}
-use Rattle.sp_record_laws.proofs.FittedLemmas.{tasks_go_on}
-use Rattle.sp_reply_laws.specs.Calls.{IsSettingOf}
-use Rattle.sp_reply_laws.specs.Starts.{Begins}
-use Rattle.sp_reply_laws.proofs.StartLemmas.{tasks_begin}
-use Rattle.sp_reply_laws.proofs.TakenLemmas.{call_replies_are_taken}
+use Rattle.sp_laws.specs.Changes.{GoesOn, HasBegun, IsAnswered, IsOfSpace}
+use Rattle.sp_laws.specs.Calls.{IsAtCall}
+use Rattle.sp_laws.proofs.FittedLemmas.{tasks_go_on}
+use Rattle.sp_behaviours.specs.Calls.{IsSettingOf}
+use Rattle.sp_behaviours.specs.ReplyStarts.{Begins}
+use Rattle.sp_behaviours.proofs.StartLemmas.{tasks_begin}
+use Rattle.sp_behaviours.proofs.TakenLemmas.{call_replies_are_taken}
 use Rattle.sp_rules.specs.Classes.{Setting}
 use Rattle.sp_rules.specs.Events.{Event}
 use Rattle.sp_rules.specs.LivingTasks.{after_reply}
@@ -25,11 +25,11 @@ use Rattle.sp_rules.specs.Tasks.{Task}
 use Rattle.sp_core.specs.Cores.{IsCore, is_lent}
 use Rattle.sp_core.specs.declared.space_core.SpaceCore.{SpaceCore}
 use Rattle.sp_space.specs.Machines.{machine_at}
-use Rattle.sp_players.specs.Players.{IsBehind, IsLevel, IsPlayed, IsPlayedBy, IsUntouched, IsWaiting, Played}
+use Rattle.sp_machines.specs.Players.{IsBehind, IsLevel, IsPlayed, IsPlayedBy, IsUntouched, IsWaiting, Played}
 use Rattle.sp_space.specs.Spaces.{IsFree, IsSpace, Stands}
 use Rattle.sp_space.specs.declared.parts.Parts.{Parts}
 use Rattle.sp_space.proofs.FreeLemmas.{still-free}
-use Rattle.sp_players.proofs.GoingLemmas.{goes-on, outside}
+use Rattle.sp_machines.proofs.GoingLemmas.{goes-on, outside}
 
 pub after-event : (g : Setting) (h : List Event) (e : Event) (space : Parts) (core : SpaceCore) → Stands g h space → IsOfSpace e → (lent : List ℕ) → refusal g lent (state_of g h) e ≡ None
     → IsCore g (state_of g (e ∷ h)) core → Stands g (e ∷ h) (record space { core = core })

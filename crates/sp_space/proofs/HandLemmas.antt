@@ -8,11 +8,11 @@ use Rattle.sp_behaviours.specs.Behaviours.{op_at, IsOfStore}
 use Rattle.sp_behaviours.specs.Follows.{Follows, stand_of, waiting}
 use Rattle.sp_behaviours.proofs.Following.{stands}
 use Rattle.sp_living.specs.Hands.{task_of}
-use Rattle.sp_record_laws.specs.Changes.{lent_after, when_finished, when_parked}
-use Rattle.sp_record_laws.proofs.FittedLemmas.{point-waiting}
-use Rattle.sp_record_laws.proofs.LentEvents.{lent_tasks_go_on}
-use Rattle.sp_reply_laws.specs.Calls.{IsTakenAs}
-use Rattle.sp_reply_laws.proofs.TakenLemmas.{store_replies_are_taken}
+use Rattle.sp_laws.specs.Changes.{lent_after, when_finished, when_parked}
+use Rattle.sp_laws.proofs.FittedLemmas.{point-waiting}
+use Rattle.sp_laws.proofs.LentEvents.{lent_tasks_go_on}
+use Rattle.sp_behaviours.specs.Calls.{IsTakenAs}
+use Rattle.sp_behaviours.proofs.TakenLemmas.{store_replies_are_taken}
 use Rattle.sp_rules.specs.Behaviours.{Op, Create, Get, Put, Call, Outcome}
 use Rattle.sp_rules.specs.Classes.{Setting}
 use Rattle.sp_rules.specs.Events.{Event, Committed, Parked, GivenBack, Finished}
@@ -36,19 +36,19 @@ use Rattle.vm_act.specs.declared.asked.Asked.TheVariants as asked
 use Rattle.vm_act.specs.declared.machine.Machine.{Machine}
 use Rattle.vm_step.specs.Run.{State as Machine_state, Running, Waits, Over, Lost}
 use Rattle.sp_space.specs.Hands.{AsksInHand, ComesNext, EndsInHand, HasMade, IsInHand, IsLevelHand}
-use Rattle.sp_players.specs.Coming.{IsNextAt, fuel_at}
+use Rattle.sp_machines.specs.Coming.{IsNextAt, fuel_at}
 use Rattle.sp_space.specs.Machines.{machine_at}
-use Rattle.sp_players.specs.Players.{AsksIn, CanCatchUp, IsBehind, IsLevel, IsLevelAt, IsPlayed, IsWaiting, Played, reached}
+use Rattle.sp_machines.specs.Players.{AsksIn, CanCatchUp, IsBehind, IsLevel, IsLevelAt, IsPlayed, IsWaiting, Played, reached}
 use Rattle.sp_space.specs.Spaces.{Stands}
 use Rattle.sp_space.specs.declared.machines.Machines.{Machines}
-use Rattle.sp_players.specs.declared.player.Next.{Next}
-use Rattle.sp_players.specs.declared.player.Next.TheVariants as next
+use Rattle.sp_machines.specs.declared.task_machine.Next.{Next}
+use Rattle.sp_machines.specs.declared.task_machine.Next.TheVariants as next
 use Rattle.sp_space.specs.declared.parts.Parts.{Parts}
-use Rattle.sp_players.proofs.EndLemmas.{some-fuel, step-fuel}
+use Rattle.sp_machines.proofs.EndLemmas.{some-fuel, step-fuel}
 use Rattle.sp_space.proofs.LentLemmas.{Lent, lent-hand}
-use Rattle.sp_players.proofs.PlayedLemmas.{follows-abreast, follows-ahead, waits-in}
+use Rattle.sp_machines.proofs.PlayedLemmas.{follows-abreast, follows-ahead, waits-in}
 use Rattle.sp_space.proofs.StandLemmas.{back-nothing, lent-event, machine-change}
-use Rattle.sp_players.proofs.PlayedLemmas.{only}
+use Rattle.sp_machines.proofs.PlayedLemmas.{only}
 
 -- ---- instructions, none or one
 

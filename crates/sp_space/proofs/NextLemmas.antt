@@ -16,17 +16,17 @@ use Rattle.sp_core.specs.Cores.{has_lent}
 use Rattle.sp_core.specs.Hands.{committed, finished, given_back, is_on_store, parked}
 use Rattle.sp_core.specs.declared.lent_task.LentTask.{LentTask}
 use Rattle.sp_space.specs.Hands.{AsksInHand, ComesNext, EndsInHand, HasMade, IsInHand, IsLevelHand}
-use Rattle.sp_players.specs.Coming.{IsNextAt}
+use Rattle.sp_machines.specs.Coming.{IsNextAt}
 use Rattle.sp_space.specs.Machines.{machine_at}
-use Rattle.sp_players.specs.Players.{IsLevelAt, Played}
+use Rattle.sp_machines.specs.Players.{IsLevelAt, Played}
 use Rattle.sp_space.specs.Spaces.{Stands}
 use Rattle.sp_space.specs.declared.machines.Machines.{Machines}
-use Rattle.sp_players.specs.declared.player.Next.{Next}
-use Rattle.sp_players.specs.declared.player.Next.TheVariants as next
+use Rattle.sp_machines.specs.declared.task_machine.Next.{Next}
+use Rattle.sp_machines.specs.declared.task_machine.Next.TheVariants as next
 use Rattle.sp_space.specs.declared.parts.Parts.{Parts}
 use Rattle.sp_space.proofs.HandLemmas.{asks-stand, ended-hand, level-player, level-stands, made-ends, made-hand, made-next-is}
 use Rattle.sp_space.proofs.StandLemmas.{machine-change}
-use Rattle.sp_players.proofs.PlayedLemmas.{only}
+use Rattle.sp_machines.proofs.PlayedLemmas.{only}
 use Rattle.sp_space.proofs.StepLemmas.{commit-events, ended-events, last-events, own-events, park-events}
 
 -- its machine has changed, and is level with it still

@@ -3,8 +3,8 @@ use Rattle.std.proofs.Common.{◌≡◌, ℕ, ◌+◌, Bool, true, false, cond, 
 use Rattle.std.specs.Prelude.{is_some, unwrap_or, ◌==◌}
 use Rattle.std.proofs.lemmas.Bool.{eq-eqb, eqb-true, true≢false}
 use Rattle.cls_link.specs.Links.{Links}
-use Rattle.sp_record_laws.specs.Changes.{lent_task}
-use Rattle.sp_record_laws.proofs.LentEvents.{other_tasks_stay}
+use Rattle.sp_laws.specs.Changes.{lent_task}
+use Rattle.sp_laws.proofs.LentEvents.{other_tasks_stay}
 use Rattle.sp_rules.specs.Classes.{Setting}
 use Rattle.sp_rules.specs.Events.{Event, GivenBack}
 use Rattle.sp_rules.specs.Lists.{at_first, with_some}
@@ -18,11 +18,11 @@ use Rattle.sp_core.specs.Cores.{IsCore}
 use Rattle.sp_core.specs.Hands.{given_back}
 use Rattle.sp_core.specs.declared.space_core.SpaceCore.{SpaceCore}
 use Rattle.sp_space.specs.Machines.{machine_at}
-use Rattle.sp_players.specs.Players.{IsPlayed, Played}
+use Rattle.sp_machines.specs.Players.{IsPlayed, Played}
 use Rattle.sp_space.specs.Spaces.{IsOf, Stands}
 use Rattle.sp_space.specs.declared.machines.Machines.{Machines}
 use Rattle.sp_space.specs.declared.parts.Parts.{Parts}
-use Rattle.sp_players.proofs.PlayedLemmas.{after-none}
+use Rattle.sp_machines.proofs.PlayedLemmas.{after-none}
 
 itself : (n : ℕ) → (n == n) ≡ true
 itself n = eq-eqb n n refl

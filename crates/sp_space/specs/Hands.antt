@@ -18,11 +18,11 @@ use Rattle.sp_rules.specs.Space.{state_of}
 use Rattle.sp_rules.specs.State.{Living, task_at}
 use Rattle.sp_core.specs.Cores.{has_lent}
 use Rattle.sp_core.specs.declared.lent_task.LentTask.{LentTask}
-use Rattle.sp_players.specs.Coming.{IsNextAt, fuel_at}
+use Rattle.sp_machines.specs.Coming.{IsNextAt, fuel_at}
 use Rattle.sp_space.specs.Machines.{machine_at}
-use Rattle.sp_players.specs.Players.{IsLevel, IsLevelAt, Played}
+use Rattle.sp_machines.specs.Players.{IsLevel, IsLevelAt, Played}
 use Rattle.sp_space.specs.Spaces.{Stands}
-use Rattle.sp_players.specs.declared.player.Next.{Next}
+use Rattle.sp_machines.specs.declared.task_machine.Next.{Next}
 use Rattle.sp_space.specs.declared.parts.Parts.{Parts}
 
 -- The space lends this task, which has made no instruction since.

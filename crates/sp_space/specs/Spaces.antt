@@ -5,14 +5,14 @@ use Rattle.sp_rules.specs.Events.{Event}
 use Rattle.sp_rules.specs.Origins.{IsTaken}
 use Rattle.sp_rules.specs.Space.{state_of}
 use Rattle.sp_rules.specs.State.{State, task_at}
-use Rattle.sp_classes.specs.Classes.{classes_of}
+use Rattle.sp_behaviours.specs.Classes.{classes_of}
 use Rattle.sp_behaviours.specs.Follows.{PlaysOn}
-use Rattle.sp_reply_laws.specs.Calls.{IsSettingOf}
+use Rattle.sp_behaviours.specs.Calls.{IsSettingOf}
 use Rattle.sp_core.specs.Cores.{IsCore, is_lent}
 use Rattle.sp_core.specs.declared.space_core.SpaceCore.{SpaceCore}
-pub use Rattle.sp_players.specs.Limits.{AreLimits}
+pub use Rattle.sp_machines.specs.Limits.{AreLimits}
 use Rattle.sp_space.specs.Machines.{machine_at}
-use Rattle.sp_players.specs.Players.{IsPlayed}
+use Rattle.sp_machines.specs.Players.{IsPlayed}
 use Rattle.sp_space.specs.declared.parts.Parts.{Parts}
 
 -- A space is one of this setting: its tasks run on the linked set that the setting's classes are of, within the setting's limits.

@@ -9,10 +9,10 @@ ghost use Rattle.sp_core.specs.Cores.{has_lent};
 ghost use Rattle.sp_core.specs.Hands.{is_on_store};
 ghost use Rattle.sp_space.specs.Events.{IsStep, IsStepRefused};
 ghost use Rattle.sp_space.specs.Hands.{AsksInHand, ComesNext};
-ghost use Rattle.sp_players.specs.Coming.{IsAskedBy};
+ghost use Rattle.sp_machines.specs.Coming.{IsAskedBy};
 ghost use Rattle.sp_space.specs.Machines.{machine_at};
 ghost use Rattle.sp_space.specs.Spaces.{IsFree, LendsNoOther, Somewhere, Stands};
-ghost use Rattle.sp_players.specs.declared.player.Next.TheVariants as next;
+ghost use Rattle.sp_machines.specs.declared.task_machine.Next.TheVariants as next;
 
 use crate::parts::Parts;
 use sp_core::LentTask;

@@ -9,7 +9,7 @@ ghost use Rattle.sp_core.specs.Hands.{finished, given_back};
 ghost use Rattle.sp_space.specs.Events.{Happened, IsRefused, IsStep, IsStepRefused};
 ghost use Rattle.sp_space.specs.Hands.{ComesNext, EndsInHand, HasMade};
 ghost use Rattle.sp_space.specs.Spaces.{IsFree, LendsNoOther, Somewhere, Stands};
-ghost use Rattle.sp_players.specs.declared.player.Next.TheVariants as next;
+ghost use Rattle.sp_machines.specs.declared.task_machine.Next.TheVariants as next;
 
 use crate::parts::Parts;
 use sp_core::LentTask;

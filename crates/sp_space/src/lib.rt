@@ -7,8 +7,8 @@ pub use space::Space;
 
 mod asking;
 mod ending;
-mod inhabiting;
 mod machines;
 mod parts;
 mod space;
 mod stepping;
+mod world_space;

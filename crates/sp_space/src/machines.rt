@@ -11,12 +11,12 @@ ghost use Rattle.sp_rules.specs.State.{Living};
 ghost use Rattle.sp_tasks.specs.Behaviours.{op_of};
 ghost use Rattle.vm_act.specs.declared.machine.Machine.{Machine};
 ghost use Rattle.vm_step.specs.Run.{Waits};
-ghost use Rattle.sp_players.specs.Coming.{IsAskedBy, IsNextAt, fuel_at};
+ghost use Rattle.sp_machines.specs.Coming.{IsAskedBy, IsNextAt, fuel_at};
 ghost use Rattle.sp_space.specs.Machines.{machine_at};
-ghost use Rattle.sp_players.specs.Players.{AsksIn, CanCatchUp, IsLevelAt, IsPlayed, Played};
+ghost use Rattle.sp_machines.specs.Players.{AsksIn, CanCatchUp, IsLevelAt, IsPlayed, Played};
 
 use indexmap::IndexMap;
-use sp_players::{Next, Player};
+use sp_machines::{Next, TaskMachine};
 use sp_tasks::{Op, Record};
 use std::alloc::{AllocError, Global};
 use vm_code::Asked;
@@ -24,7 +24,7 @@ use vm_code::Asked;
 /// The machines of the living tasks, by the ids of their tasks.
 #[derive(Drop)]
 pub(crate) struct Machines<'p> {
-    rows: IndexMap<u64, Player<'p>>,
+    rows: IndexMap<u64, TaskMachine<'p>>,
 }
 
 impl<'p> Machines<'p> {
@@ -53,7 +53,7 @@ impl<'p> Machines<'p> {
     }
 
     /// Adds the machine of a task, for which there is room. It takes no memory.
-    pub(crate) fn insert_reserved(&mut self, id: u64, player: Player<'p>)
+    pub(crate) fn insert_reserved(&mut self, id: u64, player: TaskMachine<'p>)
         requires { 0 < spare self.old.rows }
         ensures { (other : ℕ) → machine_at other self.new ≡ (if id == other then Some player.entry else machine_at other self.old) }
     {

@@ -1,11 +1,11 @@
 //! The parts of spaces.
 
 ghost use Rattle.std.specs.Prelude.{◌≡◌, IfOk};
-ghost use Rattle.sp_classes.specs.Classes.{classes_of};
-ghost use Rattle.sp_reply_laws.specs.Told.{AreRemoteRules};
+ghost use Rattle.sp_behaviours.specs.Classes.{classes_of};
+ghost use Rattle.sp_behaviours.specs.Told.{AreRemoteRules};
 ghost use Rattle.sp_rules.specs.Classes.{Setting};
 ghost use Rattle.sp_rules.specs.State.{opening};
-ghost use Rattle.sp_players.specs.Limits.{AreLimits};
+ghost use Rattle.sp_machines.specs.Limits.{AreLimits};
 ghost use Rattle.sp_space.specs.Spaces.{IsResting, IsSpace};
 
 use crate::machines::Machines;

@@ -1,12 +1,12 @@
 //! Spaces.
 
 ghost use Rattle.std.specs.Prelude.{◌≡◌, [], IfOk, option_map, slice_get};
-ghost use Rattle.sp_classes.specs.Classes.{classes_of};
-ghost use Rattle.sp_reply_laws.specs.Told.{AreRemoteRules};
+ghost use Rattle.sp_behaviours.specs.Classes.{classes_of};
+ghost use Rattle.sp_behaviours.specs.Told.{AreRemoteRules};
 ghost use Rattle.sp_rules.specs.Classes.{Setting};
 ghost use Rattle.sp_rules.specs.State.{State, opening, standing};
 ghost use Rattle.sp_core.specs.Shown.{lowest_ready, shown, shown_of};
-ghost use Rattle.sp_players.specs.Limits.{AreLimits};
+ghost use Rattle.sp_machines.specs.Limits.{AreLimits};
 ghost use Rattle.sp_space.specs.Spaces.{IsSpace};
 
 use crate::parts::Parts;

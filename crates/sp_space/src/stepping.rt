@@ -7,15 +7,15 @@ ghost use Rattle.sp_rules.specs.Events.{Event as Happening};
 ghost use Rattle.sp_core.specs.Cores.{has_lent};
 ghost use Rattle.sp_space.specs.Events.{IsStep, IsStepRefused};
 ghost use Rattle.sp_space.specs.Hands.{ComesNext, IsInHand, IsLevelHand, LivesAs};
-ghost use Rattle.sp_players.specs.Coming.{IsAskedBy};
+ghost use Rattle.sp_machines.specs.Coming.{IsAskedBy};
 ghost use Rattle.sp_space.specs.Machines.{machine_at};
 ghost use Rattle.sp_space.specs.Spaces.{IsFree, IsResting, LendsNoOther, Somewhere, Stands};
 
 use crate::parts::Parts;
 use sp_core::LentTask;
 use sp_events::CoreFault;
+use sp_machines::{Next, TaskMachine};
 use sp_outputs::Output;
-use sp_players::{Next, Player};
 use sp_tasks::Record;
 use std::alloc::AllocError;
 use vm_step::Limits;
@@ -77,7 +77,7 @@ impl<'p> Parts<'p> {
             ..self.limits
         };
         self.machines.reserve()?;
-        let player = Player::new(self.alloc, self.program, self.id, record, limits)?;
+        let player = TaskMachine::new(self.alloc, self.program, self.id, record, limits)?;
         self.machines.insert_reserved(id, player);
         Ok(())
     }

@@ -11,8 +11,8 @@ use Rattle.space_ids.specs.declared.value.Value.{Value}
 use Rattle.sp_space.specs.Spaces as spaces
 use Rattle.sp_space.specs.Spaces.{IsSpace}
 use Rattle.sp_space.specs.declared.parts.Parts.{Parts}
-use Rattle.sp_classes.specs.Classes.{classes_of}
-use Rattle.sp_classes.specs.Starts.{start_refusal_in}
+use Rattle.sp_behaviours.specs.Classes.{classes_of}
+use Rattle.sp_behaviours.specs.Starts.{start_refusal_in}
 use Rattle.sp_events.specs.FaultNames.{Refuses, RefusesOrLacks, core_fault_number, start_refusal}
 use Rattle.sp_events.specs.declared.fault.CoreFault.{CoreFault}
 use Rattle.sp_events.specs.declared.fault.CoreFault.TheVariants as core

@@ -3,7 +3,7 @@ use Rattle.std.specs.Prelude.{◌≡◌, ℕ, List}
 use Rattle.cls_link.specs.Links.{Links}
 use Rattle.sp_space.specs.Spaces.{IsSpace}
 use Rattle.sp_space.specs.declared.parts.Parts.{Parts}
-use Rattle.sp_classes.specs.Classes.{classes_of}
+use Rattle.sp_behaviours.specs.Classes.{classes_of}
 use Rattle.sp_events.specs.declared.fault.CoreFault.{CoreFault}
 use Rattle.sp_events.specs.declared.fault.CoreFault.TheVariants as core
 use Rattle.sp_events.specs.declared.fault.StartFault.TheVariants as core_start

@@ -25,7 +25,7 @@ use sp_files::{ClassBytes, Refusal, RunOutcome};
 use sp_outputs::Output;
 use sp_runs::named;
 use sp_space::Space;
-use sp_world::Inhabitant;
+use sp_world::WorldSpace;
 use space_ids::{Uuid, Value};
 use std::alloc::Global;
 use vm_step::{Limits, MethodId, Outcome, Program, StartFault};

@@ -6,7 +6,7 @@ use Rattle.space_ids.specs.declared.ids.ClassId.{ClassId}
 use Rattle.space_ids.specs.declared.ids.ObjId.{ObjId}
 use Rattle.space_ids.specs.declared.value.Value.{Value}
 use Rattle.uuid.specs.declared.Uuid.{Uuid}
-use Rattle.sp_call_classes.specs.declared.call_classes.RemoteException.TheVariants as exception
+use Rattle.sp_requests.specs.declared.call_classes.RemoteException.TheVariants as exception
 use Rattle.sp_registry.specs.Bindings.{lookup}
 use Rattle.sp_rules.specs.Classes.{Setting, fit_kinds}
 use Rattle.sp_rules.specs.Endings.{close}

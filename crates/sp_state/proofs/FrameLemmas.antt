@@ -7,8 +7,8 @@ use Rattle.net_message.specs.declared.message.Message.{Message}
 use Rattle.net_message.specs.declared.message.Message.TheVariants as message
 use Rattle.space_ids.specs.declared.ids.ClassId.{ClassId}
 use Rattle.uuid.specs.declared.Uuid.{Uuid}
-use Rattle.sp_connections.specs.Tables.{seen}
-use Rattle.sp_connections.specs.declared.connection.Connection.{Connection as Seen}
+use Rattle.sp_requests.specs.Tables.{seen}
+use Rattle.sp_requests.specs.declared.connection.Connection.{Connection as Seen}
 use Rattle.sp_rules.specs.Classes.{Setting}
 use Rattle.sp_rules.specs.Endings.{close}
 use Rattle.sp_rules.specs.Frames.{first_frame, got, greeted, is_asking, is_wrong_way, let_go, receive, release}

@@ -8,8 +8,8 @@ use Rattle.space_ids.specs.declared.ids.ObjId.{ObjId}
 use Rattle.space_ids.specs.declared.value.Value.{Value}
 use Rattle.space_ids.specs.declared.value.Value.TheVariants as values
 use Rattle.uuid.specs.declared.Uuid.{Uuid}
-use Rattle.sp_call_classes.specs.Thrown.{thrown_class}
-use Rattle.sp_call_classes.specs.declared.call_classes.RemoteException.{RemoteException}
+use Rattle.sp_requests.specs.Thrown.{thrown_class}
+use Rattle.sp_requests.specs.declared.call_classes.RemoteException.{RemoteException}
 use Rattle.sp_rules.specs.Behaviours.{Throws}
 use Rattle.sp_rules.specs.Classes.{Setting}
 use Rattle.sp_rules.specs.Events.{Acks, Replies}

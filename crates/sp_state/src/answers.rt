@@ -16,10 +16,9 @@ ghost use Rattle.sp_tasks.specs.Lent.{KeepsLent};
 
 use crate::SpaceState;
 use crate::refusing::fits;
-use sp_call_classes::{CallClasses, RemoteException};
 use sp_endings::foreign_in;
 use sp_parked::{Frame, ParkedFrame};
-use sp_requests::Asker;
+use sp_requests::{Asker, CallClasses, RemoteException};
 use sp_tasks::Reply;
 use space_ids::{ClassId, Row, Value};
 use std::alloc::AllocError;
@@ -30,7 +29,7 @@ impl SpaceState {
 
     // Takes the result of a call or lookup. One that does not fit gives UnmarshalException; else it waits until
     // its reference has a lease. An answer to nothing closes the connection.
-    pub(crate) fn got_returned<C: CallClasses>(
+    pub(crate) fn receive_returned<C: CallClasses>(
         &mut self,
         classes: &C,
         conn: u64,
@@ -103,7 +102,7 @@ impl SpaceState {
     }
 
     // Takes the class that a call or lookup threw. One that is no Throwable gives UnmarshalException.
-    pub(crate) fn got_threw<C: CallClasses>(
+    pub(crate) fn receive_threw<C: CallClasses>(
         &mut self,
         classes: &C,
         conn: u64,
@@ -122,7 +121,7 @@ impl SpaceState {
     }
 
     // Takes that a call's fuel was spent: its caller is Spent, and a lookup gets UnmarshalException.
-    pub(crate) fn got_spent<C: CallClasses>(
+    pub(crate) fn receive_spent<C: CallClasses>(
         &mut self,
         classes: &C,
         conn: u64,
@@ -140,7 +139,7 @@ impl SpaceState {
     }
 
     // Takes the lease that answers dirty calls.
-    pub(crate) fn got_lease<C: CallClasses>(
+    pub(crate) fn receive_lease<C: CallClasses>(
         &mut self,
         classes: &C,
         conn: u64,
@@ -155,7 +154,7 @@ impl SpaceState {
     }
 
     // Takes the answer to clean calls.
-    pub(crate) fn got_cleaned<C: CallClasses>(
+    pub(crate) fn receive_cleaned<C: CallClasses>(
         &mut self,
         classes: &C,
         conn: u64,

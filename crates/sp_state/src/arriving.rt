@@ -1,7 +1,7 @@
 //! Frames as they come: the space that dialled asks, and the other end answers. (This project's own protocol.)
 
 ghost use Rattle.std.specs.Prelude.{◌≡◌, [], None, Some, OnOk, true, false};
-ghost use Rattle.sp_connections.specs.Tables.{seen};
+ghost use Rattle.sp_requests.specs.Tables.{seen};
 ghost use Rattle.sp_rules.specs.Classes.{Setting};
 ghost use Rattle.sp_rules.specs.Frames.{got, is_asking, is_wrong_way, receive};
 ghost use Rattle.sp_rules.specs.OwnEvents.{received_on};
@@ -11,9 +11,8 @@ ghost use Rattle.sp_tasks.specs.Lent.{KeepsLent};
 
 use crate::SpaceState;
 use net_message::Message;
-use sp_call_classes::{CallClasses, RemoteException};
-use sp_connections::Connection;
 use sp_parked::ParkedCall;
+use sp_requests::{CallClasses, Connection, RemoteException};
 use std::alloc::AllocError;
 
 impl SpaceState {
@@ -57,14 +56,14 @@ impl SpaceState {
             return self.close(classes, RemoteException::Unmarshal, conn);
         }
         if asks {
-            self.got_asking(classes, conn, connection, message)
+            self.receive_asking(classes, conn, connection, message)
         } else {
-            self.got_answer(classes, conn, message)
+            self.receive_answer(classes, conn, message)
         }
     }
 
     // Takes a frame that asks.
-    fn got_asking<C: CallClasses>(
+    fn receive_asking<C: CallClasses>(
         &mut self,
         classes: &C,
         conn: u64,
@@ -89,28 +88,28 @@ impl SpaceState {
                     fuel,
                     arguments,
                 };
-                self.got_call(classes, conn, connection.last, number, call)
+                self.receive_call(classes, conn, connection.last, number, call)
             }
             Message::Lookup { number, name } => {
-                self.got_lookup(classes, conn, connection.last, number, name.as_slice())
+                self.receive_lookup(classes, conn, connection.last, number, name.as_slice())
             }
-            Message::Ack { number } => self.got_ack(classes, conn, number),
+            Message::Ack { number } => self.receive_ack(classes, conn, number),
             Message::Dirty {
                 sequence,
                 period,
                 objects,
-            } => self.got_dirty(conn, connection.peer, sequence, period, objects.as_slice()),
+            } => self.receive_dirty(conn, connection.peer, sequence, period, objects.as_slice()),
             Message::Clean {
                 sequence,
                 strong,
                 objects,
-            } => self.got_clean(conn, connection.peer, sequence, strong, objects.as_slice()),
+            } => self.receive_clean(conn, connection.peer, sequence, strong, objects.as_slice()),
             _ => unreachable!(),
         }
     }
 
     // Takes a frame that does not ask, on a connection that this space dialled. A second Hello closes it.
-    fn got_answer<C: CallClasses>(
+    fn receive_answer<C: CallClasses>(
         &mut self,
         classes: &C,
         conn: u64,
@@ -126,13 +125,13 @@ impl SpaceState {
                 number,
                 fuel,
                 value,
-            } => self.got_returned(classes, conn, number, fuel, value),
-            Message::Threw { number, class } => self.got_threw(classes, conn, number, class),
-            Message::Spent { number } => self.got_spent(classes, conn, number),
+            } => self.receive_returned(classes, conn, number, fuel, value),
+            Message::Threw { number, class } => self.receive_threw(classes, conn, number, class),
+            Message::Spent { number } => self.receive_spent(classes, conn, number),
             Message::Lease { sequence, period } => {
-                self.got_lease(classes, conn, sequence, period)
+                self.receive_lease(classes, conn, sequence, period)
             }
-            Message::Cleaned { sequence } => self.got_cleaned(classes, conn, sequence),
+            Message::Cleaned { sequence } => self.receive_cleaned(classes, conn, sequence),
             _ => unreachable!(),
         }
     }

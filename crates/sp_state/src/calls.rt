@@ -2,7 +2,7 @@
 
 ghost use Rattle.std.specs.Prelude.{◌≡◌, ◌||◌, ℕ, [], IfOk, OnOk, None, not};
 ghost use Rattle.std.specs.List.{list_any};
-ghost use Rattle.sp_call_classes.specs.Thrown.{thrown_class};
+ghost use Rattle.sp_requests.specs.Thrown.{thrown_class};
 ghost use Rattle.sp_rules.specs.Classes.{Setting, fit_kinds};
 ghost use Rattle.sp_rules.specs.Frames.{call_on, got_call};
 ghost use Rattle.sp_rules.specs.Holders.{is_refused};
@@ -13,10 +13,10 @@ ghost use Rattle.sp_tasks.specs.Lent.{KeepsLent};
 
 use crate::SpaceState;
 use net_message::Message;
-use sp_call_classes::{CallClasses, RemoteException};
 use sp_endings::foreign_among;
 use sp_outputs::Turn;
 use sp_parked::{Frame, ParkedCall, ParkedFrame};
+use sp_requests::{CallClasses, RemoteException};
 use space_ids::{ClassId, Row};
 use std::alloc::AllocError;
 
@@ -25,7 +25,7 @@ impl SpaceState {
     ghost use Rattle.sp_state.specs.Spaces.{IsSpace};
 
     // Takes a call that came on a connection, under a number above the last there; another closes it.
-    pub(crate) fn got_call<C: CallClasses>(
+    pub(crate) fn receive_call<C: CallClasses>(
         &mut self,
         classes: &C,
         conn: u64,

@@ -13,7 +13,7 @@ ghost use Rattle.sp_tasks.specs.Rows.{replied_hand};
 ghost use Rattle.sp_tasks.specs.Lent.{KeepsLent};
 
 use crate::SpaceState;
-use sp_call_classes::CallClasses;
+use sp_requests::CallClasses;
 use sp_tasks::{LentTask, Op, Reply, copy_value};
 use space_ids::{ClassId, ObjId, Ref, Value};
 use std::alloc::AllocError;

@@ -1,7 +1,7 @@
 //! Connections that open, fail and end, and peers that refuse.
 
 ghost use Rattle.std.specs.Prelude.{◌≡◌, [], None, OnOk, true};
-ghost use Rattle.sp_call_classes.specs.Thrown.{thrown_class};
+ghost use Rattle.sp_requests.specs.Thrown.{thrown_class};
 ghost use Rattle.sp_rules.specs.Classes.{Setting};
 ghost use Rattle.sp_rules.specs.Endings.{by_unmarshal, close, end_connection, fail_write};
 ghost use Rattle.sp_rules.specs.OwnEvents.{on_opened, on_refused};
@@ -10,7 +10,7 @@ ghost use Rattle.sp_rules.specs.State.{State, connection_at, is_dialling};
 ghost use Rattle.sp_tasks.specs.Lent.{KeepsLent};
 
 use crate::SpaceState;
-use sp_call_classes::{CallClasses, RemoteException};
+use sp_requests::{CallClasses, RemoteException};
 use space_ids::Uuid;
 use std::alloc::AllocError;
 

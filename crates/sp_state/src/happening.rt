@@ -9,9 +9,9 @@ ghost use Rattle.sp_rules.specs.State.{State};
 ghost use Rattle.sp_tasks.specs.Lent.{KeepsLent};
 
 use crate::SpaceState;
-use sp_call_classes::CallClasses;
 use sp_events::{Event, Root};
 use sp_outputs::Output;
+use sp_requests::CallClasses;
 use std::alloc::AllocError;
 
 impl SpaceState {

@@ -10,7 +10,7 @@ ghost use Rattle.sp_tasks.specs.Lent.{KeepsLent};
 
 use crate::SpaceState;
 use net_message::{Digest, Message};
-use sp_call_classes::{CallClasses, RemoteException};
+use sp_requests::{CallClasses, RemoteException};
 use space_ids::Uuid;
 use std::alloc::AllocError;
 

@@ -12,7 +12,7 @@ ghost use Rattle.sp_living.specs.Hands.{task_of};
 ghost use Rattle.sp_tasks.specs.Lent.{KeepsLent, LendsNoMore, LendsToo};
 
 use crate::SpaceState;
-use sp_call_classes::CallClasses;
+use sp_requests::CallClasses;
 use sp_tasks::{LentTask, Outcome};
 use space_ids::{Ref, Row, Value};
 use std::alloc::AllocError;

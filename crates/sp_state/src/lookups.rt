@@ -9,8 +9,8 @@ ghost use Rattle.sp_tasks.specs.Lent.{KeepsLent};
 
 use crate::SpaceState;
 use net_message::Message;
-use sp_call_classes::{CallClasses, RemoteException};
 use sp_outputs::Turn;
+use sp_requests::{CallClasses, RemoteException};
 use space_ids::{ClassId, ObjId, Ref, Uuid, Value};
 use std::alloc::AllocError;
 
@@ -19,7 +19,7 @@ impl SpaceState {
     ghost use Rattle.sp_state.specs.Spaces.{IsSpace};
 
     // Takes a lookup that came on a connection, under a number above the last there; another closes it.
-    pub(crate) fn got_lookup<C: CallClasses>(
+    pub(crate) fn receive_lookup<C: CallClasses>(
         &mut self,
         classes: &C,
         conn: u64,
@@ -66,7 +66,7 @@ impl SpaceState {
     }
 
     // Takes an Ack: the result that is held until it goes. One of no such result closes the connection.
-    pub(crate) fn got_ack<C: CallClasses>(
+    pub(crate) fn receive_ack<C: CallClasses>(
         &mut self,
         classes: &C,
         conn: u64,
@@ -82,7 +82,7 @@ impl SpaceState {
     }
 
     // Takes a dirty call of the client that the Hello named, and answers it by a lease.
-    pub(crate) fn got_dirty(
+    pub(crate) fn receive_dirty(
         &mut self,
         conn: u64,
         peer: Option<Uuid>,
@@ -106,7 +106,7 @@ impl SpaceState {
     }
 
     // Takes a clean call of the client that the Hello named, and answers it.
-    pub(crate) fn got_clean(
+    pub(crate) fn receive_clean(
         &mut self,
         conn: u64,
         peer: Option<Uuid>,

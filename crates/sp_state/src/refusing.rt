@@ -11,8 +11,7 @@ ghost use Rattle.sp_rules.specs.State.{Asked as Question, State};
 ghost use Rattle.sp_state.specs.Receiving.{IsAskedBy};
 
 use crate::SpaceState;
-use sp_call_classes::CallClasses;
-use sp_requests::{Asker, ResultKind};
+use sp_requests::{Asker, CallClasses, ResultKind};
 use space_ids::{Ref, Value};
 
 impl SpaceState {

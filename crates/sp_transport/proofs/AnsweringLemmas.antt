@@ -17,12 +17,12 @@ use Rattle.sp_rules.specs.ParkedFrames.{has_number, is_asked_on, is_call_on, is_
 use Rattle.sp_rules.specs.Requests.{hello_came, is_waiting}
 use Rattle.sp_rules.specs.State as rules
 use Rattle.sp_rules.specs.State.{State, Connection, Request, send}
-use Rattle.sp_connections.specs.Tables.{AreNumbered}
+use Rattle.sp_requests.specs.Tables.{AreNumbered}
 use Rattle.sp_requests.specs.Asking.{asks_by, call_at, first_of, sequence_in, shown}
 use Rattle.sp_requests.specs.declared.asked.OutCall.{OutCall}
-use Rattle.sp_peers.proofs.AskedLemmas.{asked-is-out, call-is-out}
-use Rattle.sp_peers.specs.AllAsked.{AreAsked, sent_on}
-use Rattle.sp_peers.specs.declared.peers.Peers.{Peers}
+use Rattle.sp_requests.proofs.AskedLemmas.{asked-is-out, call-is-out}
+use Rattle.sp_requests.specs.AllAsked.{AreAsked, sent_on}
+use Rattle.sp_requests.specs.declared.peers.Peers.{Peers}
 use Rattle.sp_outputs.specs.Notes.{notes_of}
 use Rattle.sp_outputs.specs.declared.outputs.Outputs.{Outputs}
 use Rattle.sp_transport.specs.Answers.{IsDialled, acknowledge, asker_in, park_answer}

@@ -14,11 +14,11 @@ use Rattle.sp_rules.specs.Lists.{each}
 use Rattle.sp_rules.specs.Requests.{hello_came}
 use Rattle.sp_rules.specs.Space.{conclude, record_sent}
 use Rattle.sp_rules.specs.State.{State, Connection, is_to}
-use Rattle.sp_connections.proofs.TableLemmas as tables
-use Rattle.sp_connections.specs.Tables.{AreConnections}
-use Rattle.sp_connections.specs.declared.connections.Connections.{Connections}
+use Rattle.sp_requests.proofs.TableLemmas as tables
+use Rattle.sp_requests.specs.Tables.{AreConnections}
+use Rattle.sp_requests.specs.declared.connections.Connections.{Connections}
 use Rattle.sp_requests.specs.Asking.{newest}
-use Rattle.sp_peers.proofs.CoreLemmas.{IsSameLine, lines-alike}
+use Rattle.sp_requests.proofs.CoreLemmas.{IsSameLine, lines-alike}
 use Rattle.sp_outputs.specs.Notes.{notes_of}
 use Rattle.sp_outputs.specs.declared.outputs.Outputs.{Outputs}
 use Rattle.sp_transport.specs.Said.{AreLinesAlike, CountAlike, IsLineAlike, output_sent, recorded_in_order, said}

@@ -6,7 +6,7 @@ use Rattle.std.specs.Str.{bytes_eq}
 use Rattle.uuid.specs.declared.Uuid.{Uuid}
 use Rattle.sp_rules.proofs.LineLemmas.{any-last, any-more}
 use Rattle.sp_rules.specs.State.{Connection}
-use Rattle.sp_connections.specs.Tables.{dialled_once, is_dialled, to_peer}
+use Rattle.sp_requests.specs.Tables.{dialled_once, is_dialled, to_peer}
 
 turned : (b : Bool) → not (not b) ≡ b
 turned true = refl

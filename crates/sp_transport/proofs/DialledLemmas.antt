@@ -6,9 +6,9 @@ use Rattle.uuid.specs.declared.Uuid.{Uuid}
 use Rattle.sp_rules.proofs.AllLemmas.{found-is}
 use Rattle.sp_rules.specs.Lines.{dialled_to}
 use Rattle.sp_rules.specs.State.{State, Connection, connection_at}
-use Rattle.sp_connections.specs.Tables.{seen}
-use Rattle.sp_connections.specs.declared.connection.Connection as kept
-use Rattle.sp_peers.proofs.LineLemmas.{number-line}
+use Rattle.sp_requests.specs.Tables.{seen}
+use Rattle.sp_requests.specs.declared.connection.Connection as kept
+use Rattle.sp_requests.proofs.LineLemmas.{number-line}
 use Rattle.sp_transport.specs.Answers.{IsDialled}
 use Rattle.sp_transport.specs.Said.{said}
 use Rattle.sp_transport.specs.Transports.{IsTransport}

@@ -17,8 +17,8 @@ use Rattle.sp_rules.specs.Requests.{hello_came, is_waiting, waits_for}
 use Rattle.sp_rules.specs.State as rules
 use Rattle.sp_rules.specs.State.{State, Connection, Request, connection_at, is_dialling, is_to}
 use Rattle.std.proofs.lemmas.Bool.{eqb-true}
-use Rattle.sp_connections.specs.Tables.{AreConnections}
-use Rattle.sp_connections.specs.declared.connections.Connections.{Connections}
+use Rattle.sp_requests.specs.Tables.{AreConnections}
+use Rattle.sp_requests.specs.declared.connections.Connections.{Connections}
 use Rattle.sp_requests.proofs.EndLemmas.{in-turn-before}
 use Rattle.sp_requests.specs.Asking.{asks_by}
 use Rattle.sp_requests.specs.Ends.{IsEnded, ended_at, ended_call, ended_group, in_turn, unsent_among}
@@ -26,11 +26,11 @@ use Rattle.sp_requests.specs.declared.asked.Asker.{Asker}
 use Rattle.sp_requests.specs.declared.ended.Ended.{Ended}
 use Rattle.sp_requests.specs.declared.ended.EndedCall.{EndedCall}
 use Rattle.sp_requests.specs.Peers.{of_peer}
-use Rattle.sp_peers.proofs.AskedLemmas.{IsOfPeer, connection-is-peer, end-mine, waiting-is-peer}
-use Rattle.sp_peers.proofs.CoreLemmas.{closed-asked, in-turn-of}
-use Rattle.sp_peers.proofs.LineLemmas.{line-gone, line-left, number-line, without}
-use Rattle.sp_peers.specs.AllAsked.{AreAsked}
-use Rattle.sp_peers.specs.declared.peers.Peers.{Peers}
+use Rattle.sp_requests.proofs.AskedLemmas.{IsOfPeer, connection-is-peer, end-mine, waiting-is-peer}
+use Rattle.sp_requests.proofs.CoreLemmas.{closed-asked, in-turn-of}
+use Rattle.sp_requests.proofs.LineLemmas.{line-gone, line-left, number-line, without}
+use Rattle.sp_requests.specs.AllAsked.{AreAsked}
+use Rattle.sp_requests.specs.declared.peers.Peers.{Peers}
 use Rattle.sp_transport.specs.Answers.{AreEnded, ended_as}
 use Rattle.sp_transport.specs.Said.{recorded}
 use Rattle.sp_transport.specs.Transports.{AreLines, IsTransport, WentAfterHello, asked_up_to, line_parts, waiting_number}

@@ -22,8 +22,8 @@ use Rattle.sp_requests.specs.declared.asked.Asker.{Asker}
 use Rattle.sp_requests.specs.declared.asked.Asker.TheVariants as asker
 use Rattle.sp_requests.specs.declared.asked.ResultKind.{ResultKind}
 use Rattle.sp_requests.specs.declared.asked.ResultKind.TheVariants as result
-use Rattle.sp_peers.specs.AllAsked.{AreAsked, sent_on}
-use Rattle.sp_peers.specs.declared.peers.Peers.{Peers}
+use Rattle.sp_requests.specs.AllAsked.{AreAsked, sent_on}
+use Rattle.sp_requests.specs.declared.peers.Peers.{Peers}
 use Rattle.sp_outputs.specs.Notes.{notes_of, turn_of}
 use Rattle.sp_outputs.specs.declared.output.Turn.{Turn}
 use Rattle.sp_outputs.specs.declared.outputs.Outputs.{Outputs}

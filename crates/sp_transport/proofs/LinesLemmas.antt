@@ -13,9 +13,9 @@ use Rattle.sp_rules.specs.Laws.{AllOf, RisesWithin}
 use Rattle.sp_rules.specs.Lines.{WaitsForHello, dialled_to}
 use Rattle.sp_rules.specs.Requests.{hello_came, is_waiting}
 use Rattle.sp_rules.specs.State.{Connection, Request}
-use Rattle.sp_connections.specs.Tables.{AreNumbered}
+use Rattle.sp_requests.specs.Tables.{AreNumbered}
 use Rattle.sp_requests.specs.Asking.{IsNamed, last_call, last_sequence, newest, sequence_in}
-use Rattle.sp_peers.proofs.LineLemmas.{line-apart}
+use Rattle.sp_requests.proofs.LineLemmas.{line-apart}
 use Rattle.sp_transport.specs.Said.{AreLinesAlike, IsNoted, IsOfTurn, is_said, recorded, recorded_in_order}
 use Rattle.sp_transport.specs.Transports.{AreLines, IsFresh, IsLine, LineParts, WentAfterHello, asked_up_to, call_number, waiting_number, waiting_numbers}
 use Rattle.sp_transport.proofs.SaidLemmas.{Accepts, IsSentOn, accepted-lines, accepted-notes, sent-found, with_frame}

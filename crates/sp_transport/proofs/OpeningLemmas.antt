@@ -19,13 +19,13 @@ use Rattle.sp_rules.specs.Lists.{at_first}
 use Rattle.sp_rules.specs.OwnEvents.{add_connection, dialled_no_more}
 use Rattle.sp_rules.specs.Requests.{hello_came, is_waiting, waits_for}
 use Rattle.sp_rules.specs.State.{State, Connection, Request, connection_at, connection_to, is_dialling, is_to, send}
-use Rattle.sp_connections.specs.Tables.{AreConnections, opened}
-use Rattle.sp_connections.specs.declared.connections.Connections.{Connections}
+use Rattle.sp_requests.specs.Tables.{AreConnections, opened}
+use Rattle.sp_requests.specs.declared.connections.Connections.{Connections}
 use Rattle.sp_requests.specs.Asking.{last_call, newest, sequence_in}
-use Rattle.sp_peers.specs.AllAsked.{AreAsked, sent_on}
-use Rattle.sp_peers.specs.declared.peers.Peers.{Peers}
-use Rattle.sp_peers.proofs.CoreLemmas.{accepted-asked, lines-same, row-asked}
-use Rattle.sp_peers.proofs.LineLemmas.{number-line, sent-dialled, sent-numbered}
+use Rattle.sp_requests.specs.AllAsked.{AreAsked, sent_on}
+use Rattle.sp_requests.specs.declared.peers.Peers.{Peers}
+use Rattle.sp_requests.proofs.CoreLemmas.{accepted-asked, lines-same, row-asked}
+use Rattle.sp_requests.proofs.LineLemmas.{number-line, sent-dialled, sent-numbered}
 use Rattle.sp_outputs.specs.Notes.{notes_of}
 use Rattle.sp_outputs.specs.declared.outputs.Outputs.{Outputs}
 use Rattle.sp_transport.specs.Asking.{AreNextOut, welcome}

@@ -9,7 +9,7 @@ use Rattle.sp_rules.specs.Endings.{call_number_in}
 use Rattle.sp_rules.specs.Events.{Output, Started, Ended, Withdrawn, Denied, Send, Dial, Close, Ready, Note, Says, Sends, Turn, Hellos, Replies, Waited, Cleans, Dirties, Calls, Acks, rank, output_of, of_rank, of_ranks, in_order, turn_rank}
 use Rattle.sp_rules.specs.Laws.{AllOf}
 use Rattle.sp_rules.specs.State.{Connection}
-use Rattle.sp_peers.specs.AllAsked.{sent_on}
+use Rattle.sp_requests.specs.AllAsked.{sent_on}
 use Rattle.sp_transport.specs.Said.{AreLinesAlike, IsNoted, IsNotAfter, IsNotAfterButAcks, IsOfTurn, is_acks, is_said, note_sent, output_sent, recorded, recorded_in_order}
 use Rattle.sp_transport.proofs.SaidLemmas.{Accepts, accepted-alike, accepted-notes, accepted-outputs, alike-output, alike-outputs, alike-self, alike-then, alike-turn, swap-sent}
 

@@ -10,7 +10,7 @@ use Rattle.sp_rules.specs.Lines.{dialled_to}
 use Rattle.sp_rules.specs.Lists.{at_first}
 use Rattle.sp_rules.specs.Requests.{hello_came}
 use Rattle.sp_rules.specs.State.{Connection, is_to}
-use Rattle.sp_connections.specs.Tables.{AreNumbered, numbered}
+use Rattle.sp_requests.specs.Tables.{AreNumbered, numbered}
 use Rattle.sp_transport.proofs.SaidLemmas.{Accepts}
 
 only : (a b : Connection) → Some a ≡ Some b → a ≡ b

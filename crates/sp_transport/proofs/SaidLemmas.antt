@@ -13,9 +13,9 @@ use Rattle.sp_rules.specs.Laws.{AllOf}
 use Rattle.sp_rules.specs.Lines.{dialled_to}
 use Rattle.sp_rules.specs.Requests.{hello_came}
 use Rattle.sp_rules.specs.State.{Connection, is_to}
-use Rattle.sp_connections.specs.Tables.{numbered}
+use Rattle.sp_requests.specs.Tables.{numbered}
 use Rattle.sp_requests.specs.Asking.{sequence_in}
-use Rattle.sp_peers.specs.AllAsked.{sent_on}
+use Rattle.sp_requests.specs.AllAsked.{sent_on}
 use Rattle.sp_transport.specs.Said.{AreLinesAlike, CountAlike, IsLineAlike, output_sent, recorded}
 
 -- ---- frames that count alike

@@ -22,13 +22,13 @@ use Rattle.sp_rules.specs.Laws.{AllOf, RisesWithin}
 use Rattle.sp_rules.specs.Lines.{dialled_to}
 use Rattle.sp_rules.specs.Requests.{add_request, dial, group_frame, hello_came, part_goes_out}
 use Rattle.sp_rules.specs.State.{State, Connection, Request, Asked, Tells, Waits, Out, connection_at, connection_to, is_dialling, is_open, say, send}
-use Rattle.sp_connections.specs.Tables.{AreConnections, AreNumbered, numbered, seen}
-use Rattle.sp_connections.specs.declared.connections.Connections.{Connections}
+use Rattle.sp_requests.specs.Tables.{AreConnections, AreNumbered, numbered, seen}
+use Rattle.sp_requests.specs.declared.connections.Connections.{Connections}
 use Rattle.sp_requests.specs.Asking.{last_call, sequence_in}
-use Rattle.sp_peers.specs.AllAsked.{AreAsked, sent_on}
-use Rattle.sp_peers.specs.declared.peers.Peers.{Peers}
-use Rattle.sp_peers.proofs.CoreLemmas.{lines-same}
-use Rattle.sp_peers.proofs.LineLemmas.{line-number, sent-dialled, sent-numbered}
+use Rattle.sp_requests.specs.AllAsked.{AreAsked, sent_on}
+use Rattle.sp_requests.specs.declared.peers.Peers.{Peers}
+use Rattle.sp_requests.proofs.CoreLemmas.{lines-same}
+use Rattle.sp_requests.proofs.LineLemmas.{line-number, sent-dialled, sent-numbered}
 use Rattle.sp_outputs.specs.Notes.{is_said, notes_of, output_of}
 use Rattle.sp_outputs.specs.declared.output.Output.{Output}
 use Rattle.sp_outputs.specs.declared.output.Output.TheVariants as output

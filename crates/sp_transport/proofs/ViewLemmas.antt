@@ -9,12 +9,12 @@ use Rattle.sp_rules.specs.Lines.{dialled_to}
 use Rattle.sp_rules.specs.Requests.{hello_came}
 use Rattle.sp_rules.specs.State as rules
 use Rattle.sp_rules.specs.State.{opening}
-use Rattle.sp_connections.proofs.TableLemmas.{dialling-link}
-use Rattle.sp_connections.specs.Tables.{AreConnections, is_dialled, link_of, numbered, seen, to_peer}
-use Rattle.sp_connections.specs.declared.connection.Connection.{Connection}
-use Rattle.sp_connections.specs.declared.connection.Link.TheVariants.{Dialling, Open}
-use Rattle.sp_connections.specs.declared.connections.Connections.{Connections}
-use Rattle.sp_peers.proofs.LineLemmas.{line-number}
+use Rattle.sp_requests.proofs.TableLemmas.{dialling-link}
+use Rattle.sp_requests.specs.Tables.{AreConnections, is_dialled, link_of, numbered, seen, to_peer}
+use Rattle.sp_requests.specs.declared.connection.Connection.{Connection}
+use Rattle.sp_requests.specs.declared.connection.Link.TheVariants.{Dialling, Open}
+use Rattle.sp_requests.specs.declared.connections.Connections.{Connections}
+use Rattle.sp_requests.proofs.LineLemmas.{line-number}
 use Rattle.sp_transport.specs.Transports.{AreLines, line_parts}
 
 only : {A : Type 0} (x y : A) → Some x ≡ Some y → x ≡ y

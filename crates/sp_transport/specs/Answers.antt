@@ -18,7 +18,7 @@ use Rattle.sp_requests.specs.declared.asked.Asker.{Asker}
 use Rattle.sp_requests.specs.declared.ended.Ended.{Ended}
 use Rattle.sp_requests.specs.declared.ended.EndedCall.{EndedCall}
 use Rattle.sp_requests.specs.declared.ended.Ending.{Ending}
-use Rattle.sp_peers.specs.AllAsked as asked
+use Rattle.sp_requests.specs.AllAsked as asked
 use Rattle.sp_transport.specs.Said.{said}
 use Rattle.sp_transport.specs.declared.transport.Transport.{Transport}
 

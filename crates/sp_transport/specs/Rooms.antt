@@ -3,8 +3,8 @@ use Rattle.std.specs.Prelude.{◌≡◌, ◌≤◌, ◌+◌, ℕ, false}
 use Rattle.std.specs.Str.{bytes_eq}
 use Rattle.dgc_client.specs.Table as client
 use Rattle.uuid.specs.declared.Uuid.{Uuid}
-use Rattle.sp_connections.specs.Tables as tables
-use Rattle.sp_peers.specs.AllAsked as asked
+use Rattle.sp_requests.specs.Tables as tables
+use Rattle.sp_requests.specs.AllAsked as asked
 use Rattle.sp_outputs.specs.Notes as outputs
 use Rattle.sp_transport.specs.declared.transport.Transport.{Transport}
 

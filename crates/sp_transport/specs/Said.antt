@@ -8,7 +8,7 @@ use Rattle.sp_rules.specs.Laws.{AllOf}
 use Rattle.sp_rules.specs.State as rules
 use Rattle.sp_rules.specs.State.{State, Connection}
 use Rattle.sp_requests.specs.Asking.{sequence_in}
-use Rattle.sp_peers.specs.AllAsked.{sent_on}
+use Rattle.sp_requests.specs.AllAsked.{sent_on}
 
 -- ---- frames of the event under way
 

@@ -9,9 +9,9 @@ use Rattle.sp_rules.specs.Laws.{AllOf, RisesWithin}
 use Rattle.sp_rules.specs.Lines.{WaitsForHello, dialled_to}
 use Rattle.sp_rules.specs.Requests.{hello_came, is_waiting}
 use Rattle.sp_rules.specs.State.{State, Connection, Request, Asked, Calls, LooksUp, Tells, Waits}
-use Rattle.sp_connections.specs.Tables.{AreConnections}
+use Rattle.sp_requests.specs.Tables.{AreConnections}
 use Rattle.sp_requests.specs.Asking.{IsNamed, asked_of, last_call, last_sequence}
-use Rattle.sp_peers.specs.AllAsked.{AreAsked}
+use Rattle.sp_requests.specs.AllAsked.{AreAsked}
 use Rattle.sp_outputs.specs.Notes.{notes_of}
 use Rattle.sp_transport.specs.declared.transport.Fresh.{Fresh}
 use Rattle.sp_transport.specs.declared.transport.Transport.{Transport}

@@ -6,13 +6,11 @@ ghost use Rattle.dgc_client.specs.Table as client;
 ghost use Rattle.sp_rules.specs.Holders.{lease_now};
 ghost use Rattle.sp_rules.specs.Requests.{hello_came};
 ghost use Rattle.sp_rules.specs.State.{State, connection_at, connection_to, opening};
-ghost use Rattle.sp_connections.specs.Tables.{link_of, seen};
+ghost use Rattle.sp_requests.specs.Tables.{link_of, seen};
 
 use dgc_client::{ClientLease, Clients};
-use sp_connections::{Connection, Connections, Link};
 use sp_outputs::Outputs;
-use sp_peers::Peers;
-use sp_requests::Asked;
+use sp_requests::{Asked, Connection, Connections, Link, Peers};
 use space_ids::{ForeignId, Uuid};
 use std::alloc::{AllocError, Global};
 

@@ -8,7 +8,7 @@ ghost use Rattle.sp_pipes.specs.Connections.{end_of};
 ghost use Rattle.sp_world.specs.Happenings.{happening_of};
 
 use crate::world::Waiting;
-use crate::{Inhabitant, World, WorldEvent};
+use crate::{World, WorldEvent, WorldSpace};
 use message_copies::copy_message;
 use net_message::Message;
 use sp_events::{CoreFault, Event};
@@ -16,7 +16,7 @@ use sp_pipes::End;
 use space_ids::{Uuid, Value};
 use std::alloc::AllocError;
 
-impl<S: Inhabitant + Drop> World<S> {
+impl<S: WorldSpace + Drop> World<S> {
     ghost use Rattle.sp_world.specs.Residents.{one_event, refused_event, refused_step, step_events_of};
     ghost use Rattle.sp_world.specs.Waitings.{IsHeard, IsWorld, Keeps, Makes, accept_end, close_end, deliver_front, deliver_last, deliver_next, is_settled, open_next, refuse_next, refuse_peer, unread_end, unwritten_end};
 

@@ -10,7 +10,7 @@ ghost use Rattle.sp_events.specs.Events.{event_of};
 ghost use Rattle.sp_events.specs.FaultNames.{RefusesOrLacks};
 ghost use Rattle.sp_outputs.specs.Notes.{output_of};
 
-use crate::Inhabitant;
+use crate::WorldSpace;
 use sp_events::{CoreFault, Event};
 use sp_outputs::Output;
 use space_ids::Value;
@@ -23,7 +23,7 @@ pub(crate) struct Resident<S> {
     pub(crate) answers: Vec<Vec<Output>>,
 }
 
-impl<S: Inhabitant> Resident<S> {
+impl<S: WorldSpace> Resident<S> {
     ghost use Rattle.sp_world.specs.Residents.{IsResident, TakesRow, one_event, refused_event, refused_step, row_in, step_events_of};
 
     // A space to which nothing has happened.

@@ -5,7 +5,7 @@ ghost use Rattle.sp_rules.specs.Worlds.{World as Rules, run as after_all};
 ghost use Rattle.sp_world.specs.Happenings.{happening_of};
 ghost use Rattle.sp_world.specs.Waitings.{IsWorld, is_settled};
 
-use crate::{Inhabitant, World, WorldEvent};
+use crate::{World, WorldEvent, WorldSpace};
 
 /// A run in which memory ran out.
 #[derive(Drop)]
@@ -18,7 +18,7 @@ pub struct Unfinished<S> {
 
 /// The world after events, oldest first. At out of memory that after the first of them, and how many
 /// these are; the others have not happened.
-pub fn run<S: Inhabitant + Drop>(
+pub fn run<S: WorldSpace + Drop>(
     world: World<S>,
     events: &[WorldEvent],
 ) -> Result<World<S>, Unfinished<S>>

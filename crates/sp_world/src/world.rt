@@ -10,7 +10,7 @@ ghost use Rattle.sp_pipes.specs.Connections.{end_of};
 ghost use Rattle.sp_world.specs.Happenings.{TellsRefusal};
 ghost use Rattle.sp_world.specs.Waitings.{row_of as outputs_of_row};
 
-use crate::Inhabitant;
+use crate::WorldSpace;
 use crate::resident::Resident;
 use crate::wiring::Wiring;
 use sp_events::CoreFault;
@@ -43,7 +43,7 @@ pub struct World<S> {
     pub(crate) waiting: Option<Waiting>,
 }
 
-impl<S: Inhabitant + Drop> World<S> {
+impl<S: WorldSpace + Drop> World<S> {
     ghost use Rattle.sp_world.specs.Residents.{AreResidents, told};
     ghost use Rattle.sp_world.specs.Waitings.{AreNew, IsSpaceAt, IsWorld, is_settled};
 
@@ -186,7 +186,7 @@ impl<S: Inhabitant + Drop> World<S> {
 }
 
 // The outputs of a row of a space.
-fn row_of<S: Inhabitant>(residents: &[Resident<S>], writer: usize, row: usize) -> &[Output]
+fn row_of<S: WorldSpace>(residents: &[Resident<S>], writer: usize, row: usize) -> &[Output]
     ensures { map output_of result.now ≡ outputs_of_row (slice_get residents.now writer) row }
 {
     match residents.get(writer) {

@@ -6,7 +6,7 @@ use Rattle.cf_reader.specs.declared.class_file.Method.{Method}
 use Rattle.cls_link.specs.Links.{Links, AreLinks, Declared, IsLinked, declared_methods}
 use Rattle.ver_frames.specs.Types.{field_vtype}
 use Rattle.vm_typing.proofs.Leads.{length-AllZip}
-use Rattle.vm_world.specs.Worlds.{gives_at}
+use Rattle.vm_laws.specs.Worlds.{gives_at}
 use Rattle.std.specs.Str.{bytes_eq}
 use Rattle.cls_set.specs.declared.class.Class.{Class}
 use Rattle.space_ids.specs.declared.ids.ClassId.{ClassId}

@@ -9,7 +9,7 @@ use Rattle.cls_set.specs.declared.class.Class.{Class}
 use Rattle.space_ids.specs.declared.ids.ClassId.{ClassId}
 use Rattle.ver_frames.specs.Types.{field_vtype}
 use Rattle.ver_frames.specs.declared.vtype.VType.{VType}
-use Rattle.vm_world.specs.Files.{own_types, types_up}
+use Rattle.vm_laws.specs.Files.{own_types, types_up}
 
 module _ (classes : List Class) where
   own_at : (fields : List Field) (k : ℕ) (f d : Field) → f ≡ get_or fields k d → k < length fields → own_types classes (drop k fields) ≡ own_types classes (f ∷ drop (k + 1) fields)

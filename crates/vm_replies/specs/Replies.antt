@@ -15,8 +15,8 @@ use Rattle.vm_heap.specs.References.{Table}
 use Rattle.vm_typing.specs.Asking.{CrossedFits, RefersTo, ReplyFits, ResultFits, ValueFits}
 use Rattle.vm_typing.specs.Fits.{There, no_method}
 use Rattle.vm_typing.specs.World.{World}
-use Rattle.vm_world.specs.Files.{types_of}
-use Rattle.vm_world.specs.Worlds.{gives_at, takes_at}
+use Rattle.vm_laws.specs.Files.{types_of}
+use Rattle.vm_laws.specs.Worlds.{gives_at, takes_at}
 
 -- what is known of fields, classes and what methods are declared to take and give, of which alone replies speak
 abbrev pub fields_world : List Class → World

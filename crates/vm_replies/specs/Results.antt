@@ -7,7 +7,7 @@ use Rattle.ver_frames.specs.declared.vtype.VType.TheVariants.{IntArray}
 use Rattle.vm_act.specs.declared.ending.Ending.{Ending}
 use Rattle.vm_act.specs.declared.ending.Ending.TheVariants as ending
 use Rattle.vm_act.specs.declared.ending.Thrown.TheVariants as thrown
-use Rattle.vm_world.specs.Worlds.{gives_at}
+use Rattle.vm_laws.specs.Worlds.{gives_at}
 
 abbrev pub is_int_array : Option VType → Bool
 is_int_array (Some IntArray) = true

@@ -2,7 +2,7 @@
 
 ghost use Rattle.std.specs.Prelude.{◌≡◌, ◌+◌, ◌-◌, ◌≤◌, IfErr, IfOk, IfSome, Some, length, slice_get};
 ghost use Rattle.cls_link.specs.Fields.{is_instance};
-ghost use Rattle.vm_world.specs.Files.{own_types, types_of, types_up};
+ghost use Rattle.vm_laws.specs.Files.{own_types, types_of, types_up};
 
 use cls_link::{ClassId, ClassSet, Field, Flags};
 use ver_frames::{VType, field_vtype};

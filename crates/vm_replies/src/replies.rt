@@ -4,7 +4,7 @@ ghost use Rattle.std.specs.Prelude.{◌≡◌, ◌<◌, IsTrue, length, unwrap_o
 ghost use Rattle.cls_set.specs.Classes.{number_of};
 ghost use Rattle.ver_frames.specs.Assignable.{IsObjectAssignable};
 ghost use Rattle.vm_code.specs.Classes.{is_remote};
-ghost use Rattle.vm_world.specs.Worlds.{gives_at};
+ghost use Rattle.vm_laws.specs.Worlds.{gives_at};
 ghost use Rattle.vm_replies.specs.Replies.{Fits, IsGiven, IsHeld, IsOfField, IsOfResult, Refers};
 
 use crate::fields::field_type;

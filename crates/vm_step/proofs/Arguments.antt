@@ -33,8 +33,8 @@ use Rattle.space_ids.specs.declared.ids.Ref.{Ref}
 use Rattle.vm_code.proofs.Remotes.{interface_sound, remote_sound}
 use Rattle.vm_code.specs.Classes.{is_remote_interface, is_below_remote, is_remote}
 use Rattle.vm_typing.proofs.Arrivals.{known_there}
-use Rattle.vm_world.proofs.Owing.{owed}
-use Rattle.vm_world.specs.Worlds.{is_init, world_of}
+use Rattle.vm_laws.proofs.Owing.{owed}
+use Rattle.vm_laws.specs.Worlds.{is_init, world_of}
 use Rattle.vm_step.specs.Sound.{IsSoundSet}
 use Rattle.vm_code.specs.Parameters.{is_array_element, is_array_type}
 use Rattle.vm_step.specs.Start.{crosses, copies, copy_of, fill, is_int_element, is_int_type, is_of_type, is_remote_element, is_remote_type, passed_at, passed_from, remote_at, AreHeld, IsHeld, refusal, takes_crossing}
@@ -45,7 +45,7 @@ use Rattle.cls_resolve.specs.declared.named.CastType.TheVariants as cast
 use Rattle.ver_frames.specs.Assignable.{IsObjectAssignable}
 use Rattle.vm_code.proofs.Subtypes.{subtype_sound}
 use Rattle.vm_code.specs.Classes.{is_subtype}
-use Rattle.vm_rows.proofs.Sets.{casts_to}
+use Rattle.vm_laws.proofs.Sets.{casts_to}
 use Rattle.vm_typing.specs.Fits.{Points}
 use Rattle.std.specs.Str.{bytes_eq}
 use Rattle.vm_step.specs.Begin.{begin_refusal, is_receiver, receive, receiver_refusal}

@@ -23,9 +23,9 @@ use Rattle.vm_typing.specs.Runs.{Move, Steps}
 use Rattle.vm_typing.specs.Typed.{IsTyped}
 use Rattle.vm_typing.specs.World.{IsPlain, World, MethodType, parameters}
 use Rattle.vm_typing.proofs.Runs.{starts_typed}
-use Rattle.vm_world.proofs.Owing.{owed}
-use Rattle.vm_world.proofs.Subjects.{passes_both, stands}
-use Rattle.vm_world.specs.Worlds.{subject_at, is_init, method_type, world_of}
+use Rattle.vm_laws.proofs.Owing.{owed}
+use Rattle.vm_laws.proofs.Subjects.{passes_both, stands}
+use Rattle.vm_laws.specs.Worlds.{subject_at, is_init, method_type, world_of}
 use Rattle.vm_step.specs.Ends.{Threw}
 use Rattle.vm_step.specs.Limited.{KeepsWithin}
 use Rattle.vm_step.specs.Run.{State, Running, Over, played, run, AreDue, IsNeverStuck}

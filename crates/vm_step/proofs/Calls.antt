@@ -15,7 +15,7 @@ use Rattle.vm_act.specs.declared.crossing.Parameter.{Parameter}
 use Rattle.vm_act.specs.declared.machine.Machine.{Machine}
 use Rattle.vm_code.specs.Parameters.{arguments_for, parameter_of, parameters_of}
 use Rattle.vm_typing.proofs.Leads.{length-AllZip}
-use Rattle.vm_world.specs.Worlds.{takes_at}
+use Rattle.vm_laws.specs.Worlds.{takes_at}
 use Rattle.vm_step.specs.Run.{IsCrossing}
 
 -- a number that no method has takes nothing

@@ -15,8 +15,8 @@ use Rattle.vm_typing.specs.Runs.{KeepsTyped}
 use Rattle.vm_typing.specs.Typed.{CallersWait, FitsFrame, IsTyped, StandsBefore, marks_of, with_result}
 use Rattle.vm_typing.specs.Typed as waiting
 use Rattle.vm_typing.specs.World.{World, IsPlain, MethodType}
-use Rattle.vm_world.specs.Worlds.{AreTyped, method_type, subject_at, world_of}
-use Rattle.vm_rows.specs.Steps as insns
+use Rattle.vm_laws.specs.Worlds.{AreTyped, method_type, subject_at, world_of}
+use Rattle.vm_laws.specs.Steps as insns
 use Rattle.vm_step.specs.Limited.{IsWithinCode, AreWithinCode, KeepsWithin}
 use Rattle.vm_step.specs.Run.{State, Running, Waits, Over, Lost}
 use Rattle.vm_step.specs.Subjects.{declared_at, declared_of}

@@ -19,9 +19,9 @@ use Rattle.vm_typing.specs.Leads.{Completes, IsGiven, IsWaiting, LeadsTo}
 use Rattle.vm_typing.specs.Runs.{KeepsTyped, Move, Replied, Steps}
 use Rattle.vm_typing.specs.Typed.{IsTyped}
 use Rattle.vm_typing.specs.World.{World, IsPlain}
-use Rattle.vm_world.specs.Worlds.{method_type, subject_at, world_of}
-use Rattle.vm_rows.proofs.Entries.{is_entry}
-use Rattle.vm_rows.specs.Steps as rows
+use Rattle.vm_laws.specs.Worlds.{method_type, subject_at, world_of}
+use Rattle.vm_laws.proofs.Entries.{is_entry}
+use Rattle.vm_laws.specs.Steps as rows
 use Rattle.vm_step.specs.Ends.{End, IsEndIn, end_of, returned_cell}
 use Rattle.vm_step.specs.Steps.{crossing}
 use Rattle.vm_replies.specs.Results.{end_for_caller, gives_ints}

@@ -1,9 +1,9 @@
 -- A class set that is linked and checked is sound.
 use Rattle.cls_link.specs.Links.{Links, AreLinks}
 use Rattle.ver_check.specs.Acceptance.{AreSafe}
-use Rattle.vm_sound.proofs.Starts.{checked}
-use Rattle.vm_sound.specs.Sound.{IsNeverStuck}
-use Rattle.vm_world.proofs.AsRead.{as_read}
+use Rattle.vm_laws.proofs.Starts.{checked}
+use Rattle.vm_laws.specs.Sound.{IsNeverStuck}
+use Rattle.vm_laws.proofs.AsRead.{as_read}
 use Rattle.vm_step.specs.Sound.{IsSoundSet}
 
 pub sound_set : (links : Links) → AreLinks links → AreSafe links → IsSoundSet links

@@ -4,9 +4,9 @@ use Rattle.cls_link.specs.Links.{Links}
 use Rattle.ver_frames.specs.Frames.{Frame}
 use Rattle.ver_frames.specs.declared.vtype.VType.{VType}
 use Rattle.vm_typing.specs.Runs.{KeepsTyped}
-use Rattle.vm_world.specs.Files.{AreAsRead}
-use Rattle.vm_world.specs.Worlds.{AreTyped, world_of}
-use Rattle.vm_rows.specs.Steps.{step}
+use Rattle.vm_laws.specs.Files.{AreAsRead}
+use Rattle.vm_laws.specs.Worlds.{AreTyped, world_of}
+use Rattle.vm_laws.specs.Steps.{step}
 
 -- The methods of a set are typed by frames (JVMS 4.10.1.6), its classes are as class files of the profile are, and each step of a
 -- typed machine leads to a typed one, or ends its task with what that may give.

@@ -7,7 +7,7 @@ use Rattle.cls_link.specs.declared.linked_code.LinkedInsn.{LinkedInsn}
 use Rattle.cls_link.specs.declared.linked_code.MethodId.{MethodId}
 use Rattle.space_ids.specs.declared.ids.ClassId.{ClassId}
 use Rattle.ver_frames.specs.Method.{Subject}
-use Rattle.vm_world.specs.Worlds.{subject_at}
+use Rattle.vm_laws.specs.Worlds.{subject_at}
 use Rattle.vm_step.specs.declared.found.Found.{Found}
 
 -- a method's declaration with the class that declares it, and its code as read and as linked

@@ -13,7 +13,7 @@ use Rattle.vm_act.specs.declared.asked.Asked.{Asked}
 use Rattle.vm_act.specs.declared.asked.Asked.TheVariants as ask
 use Rattle.vm_act.specs.declared.asked.Reply.{Reply}
 use Rattle.vm_act.specs.declared.machine.Machine.{Machine}
-use Rattle.vm_world.specs.Worlds.{takes_at}
+use Rattle.vm_laws.specs.Worlds.{takes_at}
 use Rattle.space_ids.specs.declared.value.Value.{Value}
 use Rattle.vm_act.specs.declared.ending.Thrown.{Thrown}
 use Rattle.vm_act.specs.declared.ending.Thrown.TheVariants as thrown

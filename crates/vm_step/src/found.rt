@@ -33,7 +33,7 @@ fn is_initializer(method: &Method) -> bool
     method.name.as_bytes() == b"<init>".as_slice()
 }
 
-#[tactic(auto, unfolding(crate::specs::Subjects::declared_at, vm_world::specs::Worlds::subject_at, ver_check::specs::Acceptance::subject_of))]
+#[tactic(auto, unfolding(crate::specs::Subjects::declared_at, vm_laws::specs::Worlds::subject_at, ver_check::specs::Acceptance::subject_of))]
 fn look_up(linked: &Linked, id: MethodId) -> Option<Found<'_>>
     ensures found { option_map shown result ≡ declared_at linked.now id }
     ensures links { AreLinks linked.now }

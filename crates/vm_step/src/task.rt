@@ -8,7 +8,7 @@ ghost use Rattle.vm_step.specs.Start.{started, Refuses};
 ghost use Rattle.vm_step.specs.Limited.{AlwaysKeepsWithin, KeepsWithin};
 ghost use Rattle.vm_code.specs.Parameters.{parameter_of};
 ghost use Rattle.vm_typing.specs.Runs.{Move};
-ghost use Rattle.vm_world.specs.Worlds.{takes_at};
+ghost use Rattle.vm_laws.specs.Worlds.{takes_at};
 ghost use Rattle.vm_step.specs.Run.{answer, played, run, AreDue, HasNoRemote, HasStopped, IsCrossing, IsDue, IsOver, IsNeverStuck};
 ghost use Rattle.vm_step.specs.Task.{pause_at, fuel_left, left_after, final_state, arguments_of, call_arguments, last_end, outcome_of, outcome_at, phase_state, threw_named, unmarshalled, GivesInts, IsCall, IsCalling, IsOutcome, IsOfSet};
 

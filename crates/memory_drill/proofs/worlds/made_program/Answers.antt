@@ -1,5 +1,5 @@
 use Rattle.std.specs.Prelude.{Result, Ok, Err, IfOk}
-use Rattle.sp_reply_laws.proofs.CrossingLemmas.{remote_rules_are_kept}
+use Rattle.sp_behaviours.proofs.CrossingLemmas.{remote_rules_are_kept}
 use Rattle.memory_drill.proofs.worlds.made_program.Goals as goal
 
 if-ok : {T E : Type 0} (r : Result T E) (P Q : T → Type 0) → ((x : T) → P x → Q x) → IfOk r P → IfOk r Q

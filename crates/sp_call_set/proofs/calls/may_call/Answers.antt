@@ -2,7 +2,7 @@ use Rattle.std.proofs.Common.{◌≡◌, List, true, false, subst, ◌∙◌, ar
 use Rattle.cls_link.specs.Links.{Links}
 use Rattle.cls_search.specs.MethodSearches.{is_interface}
 use Rattle.cls_set.specs.declared.class.Class.{Class}
-use Rattle.sp_classes.specs.Remote.{may_call}
+use Rattle.sp_behaviours.specs.Remote.{may_call}
 use Rattle.sp_call_set.proofs.Called.{called_as_given, inherited_alone, interfaces_alone, none_called}
 use Rattle.sp_call_set.proofs.Declared.{declared_by, none_declared}
 use Rattle.sp_call_set.proofs.calls.may_call.Goals as goal

@@ -1,6 +1,6 @@
 use Rattle.std.proofs.Common.{◌≡◌, None, subst, ◌∙◌, arith}
 use Rattle.cls_link.specs.Links.{Links}
-use Rattle.sp_classes.specs.Remote.{selected_by}
+use Rattle.sp_behaviours.specs.Remote.{selected_by}
 use Rattle.sp_call_set.proofs.Declared.{declared_by, none_declared}
 use Rattle.sp_call_set.proofs.Selected.{none_selected, selected_as_declared}
 use Rattle.sp_call_set.proofs.selecting.selected.Goals as goal

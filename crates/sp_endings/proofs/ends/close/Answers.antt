@@ -1,7 +1,7 @@
 use Rattle.std.proofs.Common.{sym, ap, subst, ◌∙◌}
 use Rattle.std.proofs.lemmas.Result.{on_ok_weaker}
 use Rattle.space_ids.specs.declared.ids.ClassId.{ClassId}
-use Rattle.sp_call_classes.specs.Thrown.{thrown_class}
+use Rattle.sp_requests.specs.Thrown.{thrown_class}
 use Rattle.sp_rules.specs.Endings.{close, end_connection, unsent_calls}
 use Rattle.sp_rules.specs.State.{Asked}
 use Rattle.sp_endings.specs.Ends.{AreThrown}

@@ -6,8 +6,8 @@ use Rattle.uuid.specs.declared.Uuid.{Uuid}
 use Rattle.sp_rules.specs.Holders.{is_held_by_tasks, is_parked}
 use Rattle.sp_rules.specs.References.{is_id_in, own_ids, references_in}
 use Rattle.sp_rules.specs.State.{KeptResult, Living}
-use Rattle.sp_call_results.specs.Held.{is_named_in, of_calls, of_roots}
-use Rattle.sp_call_results.proofs.RootLemmas.{any-of-both}
+use Rattle.sp_results.specs.Held.{is_named_in, of_calls, of_roots}
+use Rattle.sp_results.proofs.RootLemmas.{any-of-both}
 use Rattle.sp_endings.proofs.NeedLemmas.{gathered, roots-any, tasks-any}
 use Rattle.sp_endings.proofs.needing.insert_own.Goals as goal
 

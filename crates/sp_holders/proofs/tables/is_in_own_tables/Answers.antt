@@ -1,7 +1,7 @@
 use Rattle.std.proofs.Common.{sym, ap, ◌∙◌}
 use Rattle.std.specs.Prelude.{◌||◌}
 use Rattle.std.specs.List.{list_any}
-use Rattle.sp_call_results.specs.Held.{of_roots}
+use Rattle.sp_results.specs.Held.{of_roots}
 use Rattle.sp_rules.specs.References.{is_reference_in, references_in}
 use Rattle.sp_rules.specs.State.{KeptResult}
 use Rattle.sp_holders.proofs.PlaceLemmas.{roots-have, tasks-have}

@@ -1,7 +1,7 @@
 use Rattle.std.proofs.Common.{◌≡◌, Option, false, subst}
 use Rattle.std.specs.Prelude.{IfSome}
 use Rattle.cls_link.specs.Links.{Links}
-use Rattle.sp_players.specs.Players.{IsLevel}
+use Rattle.sp_machines.specs.Players.{IsLevel}
 use Rattle.sp_rules.specs.Classes.{Setting}
 use Rattle.sp_rules.specs.State.{Living}
 use Rattle.sp_rules.specs.Tasks.{HasEnded, stand}

@@ -1,6 +1,6 @@
 use Rattle.std.proofs.Common.{◌∙◌, subst, sym}
 use Rattle.std.proofs.lemmas.Result.{IfOk-at_ok}
-use Rattle.sp_reply_laws.proofs.CrossingLemmas.{remote_rules_are_kept}
+use Rattle.sp_behaviours.proofs.CrossingLemmas.{remote_rules_are_kept}
 use Rattle.sp_main.specs.Folders.{AreFilesOf, told_by}
 use Rattle.sp_texts.specs.RefusalTexts.{IsRefusalOf}
 use Rattle.sp_words.specs.Requests.{sim_words}

@@ -1,5 +1,5 @@
 use Rattle.std.proofs.Common.{◌∙◌, subst, sym}
-use Rattle.sp_reply_laws.proofs.CrossingLemmas.{remote_rules_are_kept}
+use Rattle.sp_behaviours.proofs.CrossingLemmas.{remote_rules_are_kept}
 use Rattle.sp_texts.specs.RefusalTexts.{IsRefusalOf}
 use Rattle.sp_main.proofs.Refused.{no_program_file, without_program}
 use Rattle.sp_serve_command.proofs.command.over_folder.Goals as goal

@@ -5,4 +5,4 @@ use Rattle.sp_world.specs.Waitings.{IsWorld}
 use Rattle.sp_world.proofs.runs.run.Given as goal
 
 abbrev pub invariant-loop-made : goal.invariant-loop-made
-invariant-loop-made g l = (w : World) → IsWorld g.S.Inhabitant.is_space w l.initial.world → IsWorld g.S.Inhabitant.is_space (run w (take l.made (map happening_of l.events))) l.world
+invariant-loop-made g l = (w : World) → IsWorld g.S.WorldSpace.is_space w l.initial.world → IsWorld g.S.WorldSpace.is_space (run w (take l.made (map happening_of l.events))) l.world

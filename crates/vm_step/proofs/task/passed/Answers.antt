@@ -6,7 +6,7 @@ use Rattle.vm_act.specs.Crossing.{values_of}
 use Rattle.vm_act.specs.declared.asked.Asked.{Asked}
 use Rattle.vm_act.specs.declared.crossing.Parameter.{Parameter}
 use Rattle.vm_code.specs.Parameters.{parameter_of}
-use Rattle.vm_world.specs.Worlds.{takes_at}
+use Rattle.vm_laws.specs.Worlds.{takes_at}
 use Rattle.vm_step.specs.Run.{IsCrossing}
 use Rattle.vm_step.specs.Task.{arguments_of}
 use Rattle.vm_step.proofs.Calls.{call_crosses}

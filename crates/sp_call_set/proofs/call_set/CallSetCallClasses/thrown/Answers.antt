@@ -1,5 +1,5 @@
 use Rattle.std.proofs.Common.{◌∙◌}
-use Rattle.sp_call_classes.specs.Thrown.{thrown_class}
+use Rattle.sp_requests.specs.Thrown.{thrown_class}
 use Rattle.sp_rules.specs.Classes.{Classes}
 use Rattle.sp_call_set.proofs.Told.{thrown_is, told_of}
 use Rattle.sp_call_set.proofs.call_set.CallSetCallClasses.thrown.Goals as goal

@@ -1,7 +1,7 @@
 use Rattle.std.proofs.Common.{refl}
 use Rattle.std.specs.Prelude.{option_map}
-use Rattle.sp_classes.specs.Classes.{classes_of}
-use Rattle.sp_call_classes.specs.ClassSets.{kind_of}
+use Rattle.sp_behaviours.specs.Classes.{classes_of}
+use Rattle.sp_requests.specs.ClassSets.{kind_of}
 use Rattle.sp_rules.specs.Classes.{Classes, field_kind}
 use Rattle.sp_call_set.proofs.Told.{told_of}
 use Rattle.sp_call_set.proofs.call_set.CallSetClassSet.field_kind.Goals as goal

@@ -1,5 +1,5 @@
 use Rattle.std.proofs.Common.{refl}
-use Rattle.sp_classes.specs.Classes.{classes_of}
+use Rattle.sp_behaviours.specs.Classes.{classes_of}
 use Rattle.sp_rules.specs.Classes.{Classes}
 use Rattle.sp_call_set.proofs.Told.{told_of}
 use Rattle.sp_call_set.proofs.call_set.CallSetClassSet.out_of_memory.Goals as goal

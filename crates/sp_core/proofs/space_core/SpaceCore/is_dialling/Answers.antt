@@ -1,6 +1,6 @@
 use Rattle.std.proofs.Common.{Some, sym, ap, ◌∙◌}
-use Rattle.sp_connections.specs.declared.connection.Link.{Link}
-use Rattle.sp_connections.proofs.TableLemmas.{dialling-link, other-link}
+use Rattle.sp_requests.specs.declared.connection.Link.{Link}
+use Rattle.sp_requests.proofs.TableLemmas.{dialling-link, other-link}
 use Rattle.sp_core.proofs.CheckLemmas.{no-link, other-open}
 use Rattle.sp_core.proofs.space_core.SpaceCore.is_dialling.Goals as goal
 

@@ -1,6 +1,6 @@
 use Rattle.std.proofs.Common.{ap, ◌∙◌}
 use Rattle.std.specs.Prelude.{is_some}
-use Rattle.sp_connections.specs.Tables.{seen}
+use Rattle.sp_requests.specs.Tables.{seen}
 use Rattle.sp_rules.specs.State.{connection_at}
 use Rattle.sp_core.proofs.CheckLemmas.{is-mapped}
 use Rattle.sp_core.proofs.space_core.SpaceCore.is_open.Goals as goal

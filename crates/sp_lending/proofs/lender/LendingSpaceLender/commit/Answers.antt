@@ -1,6 +1,6 @@
 use Rattle.std.proofs.Common.{ap, sym, subst, ◌∙◌}
 use Rattle.sp_lender.specs.Hands.{IsHistorys}
-use Rattle.sp_players.proofs.ResultLemmas.{if-ok, ok-or-on, on-ok}
+use Rattle.sp_machines.proofs.ResultLemmas.{if-ok, ok-or-on, on-ok}
 use Rattle.sp_rules.specs.State.{ready_at}
 use Rattle.sp_tasks.specs.Behaviours.{reply_of}
 use Rattle.sp_tasks.specs.Rows.{replied_hand}

@@ -1,4 +1,4 @@
-use Rattle.sp_players.proofs.ResultLemmas.{ok-or-on}
+use Rattle.sp_machines.proofs.ResultLemmas.{ok-or-on}
 use Rattle.sp_lending.proofs.SpaceLemmas.{in-some}
 use Rattle.sp_lending.proofs.lender.LendingSpaceLender.on.Goals as goal
 

@@ -2,7 +2,7 @@ use Rattle.std.proofs.Common.{◌≡◌, Option, true, ap, refl, sym, subst, ◌
 use Rattle.std.specs.Prelude.{option_and_then}
 use Rattle.std.proofs.lemmas.Bool.{true≢false}
 use Rattle.sp_core.specs.Cores.{is_historys, is_lent}
-use Rattle.sp_players.specs.Players.{Played}
+use Rattle.sp_machines.specs.Players.{Played}
 use Rattle.sp_rules.specs.Space.{state_of}
 use Rattle.sp_rules.specs.State.{ready_at}
 use Rattle.sp_lender.specs.Hands.{IsHistorys}

@@ -2,7 +2,7 @@ use Rattle.std.proofs.Common.{subst}
 use Rattle.cls_link.specs.Links.{AreLinks}
 use Rattle.sp_lending.proofs.BeginLemmas.{home-of, new-space}
 use Rattle.std.proofs.Common.{◌∙◌, ap, sym}
-use Rattle.sp_classes.specs.Classes.{classes_of}
+use Rattle.sp_behaviours.specs.Classes.{classes_of}
 use Rattle.sp_lending.proofs.parts.Parts.new.Goals as goal
 
 pub returns : goal.returns

@@ -1,7 +1,7 @@
 use Rattle.std.proofs.Common.{[]}
 use Rattle.sp_events.specs.Events.{event_of}
-use Rattle.sp_players.proofs.GoingLemmas.{outside}
-use Rattle.sp_players.proofs.ResultLemmas.{if-ok, on-err, on-ok-two}
+use Rattle.sp_machines.proofs.GoingLemmas.{outside}
+use Rattle.sp_machines.proofs.ResultLemmas.{if-ok, on-err, on-ok-two}
 use Rattle.sp_lending.proofs.SpaceLemmas.{event-space, kept-space, space-core}
 use Rattle.sp_lending.proofs.parts.Parts.on.Goals as goal
 

@@ -5,7 +5,7 @@ use Rattle.sp_events.specs.declared.event.Root.{Root}
 use Rattle.sp_outputs.specs.Notes.{output_of}
 use Rattle.sp_rules.specs.Events.{Root as Roots}
 use Rattle.sp_rules.specs.Space.{on}
-use Rattle.sp_players.proofs.ResultLemmas.{if-ok, on-err, on-ok-two}
+use Rattle.sp_machines.proofs.ResultLemmas.{if-ok, on-err, on-ok-two}
 use Rattle.sp_lending.proofs.BeginLemmas.{Tells, root-space}
 use Rattle.sp_lending.proofs.SpaceLemmas.{kept-space, space-core}
 use Rattle.sp_lending.proofs.parts.Parts.root.Goals as goal

@@ -1,6 +1,6 @@
 use Rattle.std.proofs.Common.{Some, sym, subst}
-use Rattle.sp_players.specs.Players.{Played}
-use Rattle.sp_players.proofs.ResultLemmas.{on-err, on-ok}
+use Rattle.sp_machines.specs.Players.{Played}
+use Rattle.sp_machines.proofs.ResultLemmas.{on-err, on-ok}
 use Rattle.sp_lending.specs.Hands.{IsLevelTask, IsTask}
 use Rattle.sp_lending.specs.declared.task_parts.TaskParts.{TaskParts}
 use Rattle.sp_lending.proofs.TaskLemmas.{can-catch-up, caught}

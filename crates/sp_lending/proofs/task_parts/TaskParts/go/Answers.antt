@@ -1,7 +1,7 @@
 use Rattle.std.proofs.Common.{◌≡◌, false, ap, sym, subst, ◌∙◌}
 use Rattle.std.specs.Prelude.{IfSome}
 use Rattle.sp_tasks.specs.Recorded.{Recorded}
-use Rattle.sp_players.specs.Players.{IsLevel, Played}
+use Rattle.sp_machines.specs.Players.{IsLevel, Played}
 use Rattle.sp_rules.specs.LivingTasks.{after_steps}
 use Rattle.sp_lending.specs.Hands.{IsTask, StandsIn}
 use Rattle.sp_lending.specs.declared.task_parts.TaskParts.{TaskParts}

@@ -1,5 +1,5 @@
 use Rattle.std.proofs.Common.{◌≡◌, Option, None, Some, sym, ◌∙◌}
-use Rattle.sp_players.specs.Players.{Played}
+use Rattle.sp_machines.specs.Players.{Played}
 use Rattle.sp_lending.proofs.TaskLemmas.{level-with}
 use Rattle.sp_lending.proofs.task_parts.TaskParts.go_on.Goals as goal
 

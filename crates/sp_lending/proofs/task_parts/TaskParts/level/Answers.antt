@@ -1,5 +1,5 @@
 use Rattle.std.proofs.Common.{Some, sym, ◌∙◌}
-use Rattle.sp_players.proofs.ResultLemmas.{on-err, on-ok}
+use Rattle.sp_machines.proofs.ResultLemmas.{on-err, on-ok}
 use Rattle.sp_lending.proofs.TaskLemmas.{with-player}
 use Rattle.sp_lending.proofs.task_parts.TaskParts.level.Goals as goal
 

@@ -3,7 +3,7 @@ use Rattle.std.proofs.lemmas.Result.{on_ok_weaker}
 use Rattle.space_ids.specs.declared.ids.Ref.{Ref}
 use Rattle.sp_rules.specs.Holders.{hold}
 use Rattle.sp_rules.specs.State.{State}
-use Rattle.sp_call_results.specs.Held.{with_acked}
+use Rattle.sp_results.specs.Held.{with_acked}
 use Rattle.sp_living.specs.Livings.{IsLiving}
 use Rattle.sp_living.proofs.ResultLemmas.{call-kept}
 use Rattle.sp_living.proofs.StepLemmas.{results-now}

@@ -1,6 +1,6 @@
 use Rattle.std.proofs.Common.{arith, ℕ, sym, subst, ◌∙◌, map}
-use Rattle.sp_call_results.specs.Held.{AreCallResults}
-use Rattle.sp_call_results.proofs.RootLemmas.{roots-orphaned}
+use Rattle.sp_results.specs.Held.{AreCallResults}
+use Rattle.sp_results.proofs.RootLemmas.{roots-orphaned}
 use Rattle.sp_rules.specs.Endings.{orphan}
 use Rattle.sp_living.proofs.TableLemmas.{results-changed}
 use Rattle.sp_living.proofs.living.Living.orphan_results.Goals as goal

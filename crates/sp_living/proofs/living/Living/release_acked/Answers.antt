@@ -2,7 +2,7 @@ use Rattle.std.proofs.Common.{[], sym, ap, subst, ◌∙◌, append-nil}
 use Rattle.sp_rules.specs.Frames.{is_acked_by}
 use Rattle.sp_rules.specs.References.{references_in}
 use Rattle.sp_rules.specs.State.{State, Acked}
-use Rattle.sp_call_results.specs.Held.{left_by_ack, references_of_results}
+use Rattle.sp_results.specs.Held.{left_by_ack, references_of_results}
 use Rattle.sp_living.specs.Livings.{IsLiving}
 use Rattle.sp_living.proofs.LivingLemmas.{dropped-none}
 use Rattle.sp_living.proofs.ResultLemmas.{any-none, any-some, call-released, released-as}

@@ -4,7 +4,7 @@ use Rattle.space_ids.specs.declared.value.Value.{Value}
 use Rattle.sp_rules.specs.OwnEvents.{is_of_root}
 use Rattle.sp_rules.specs.References.{references_in}
 use Rattle.sp_rules.specs.State.{State, KeptResult}
-use Rattle.sp_call_results.specs.Held.{references_of_results}
+use Rattle.sp_results.specs.Held.{references_of_results}
 use Rattle.sp_living.specs.Livings.{IsLiving}
 use Rattle.sp_living.specs.Parts.{AreResults}
 use Rattle.sp_living.specs.Views.{kept}

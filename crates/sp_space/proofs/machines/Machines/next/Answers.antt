@@ -1,8 +1,8 @@
 use Rattle.std.proofs.Common.{◌≡◌, Option, Some, sym, subst, arith}
 use Rattle.std.proofs.lemmas.Grind.{common_steps}
-use Rattle.sp_players.specs.Coming.{IsNextAt}
+use Rattle.sp_machines.specs.Coming.{IsNextAt}
 use Rattle.sp_space.specs.Machines.{machine_at}
-use Rattle.sp_players.specs.Players.{IsLevelAt, Played}
+use Rattle.sp_machines.specs.Players.{IsLevelAt, Played}
 use Rattle.sp_space.proofs.machines.Machines.next.Goals as goal
 
 pub returns-clause-next : goal.returns-clause-next

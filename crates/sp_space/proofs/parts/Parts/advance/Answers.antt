@@ -1,10 +1,10 @@
 use Rattle.std.proofs.Common.{◌≡◌, true, sym, subst}
 use Rattle.std.specs.Prelude.{is_some}
-use Rattle.sp_players.specs.Coming.{IsAskedBy}
+use Rattle.sp_machines.specs.Coming.{IsAskedBy}
 use Rattle.sp_space.specs.Machines.{machine_at}
 use Rattle.sp_space.proofs.HandLemmas.{level-some}
 use Rattle.sp_space.proofs.NextLemmas.{comes-next, still-stands}
-use Rattle.sp_players.proofs.ResultLemmas.{if-err, if-ok, on-err}
+use Rattle.sp_machines.proofs.ResultLemmas.{if-err, if-ok, on-err}
 use Rattle.sp_space.proofs.parts.Parts.advance.Goals as goal
 
 -- its machine is there

@@ -1,9 +1,9 @@
 use Rattle.std.proofs.Common.{◌≡◌, ap, sym, subst, ◌∙◌}
 use Rattle.std.specs.Prelude.{IsSomeAnd}
-use Rattle.sp_players.specs.Players.{AsksIn, Played}
+use Rattle.sp_machines.specs.Players.{AsksIn, Played}
 use Rattle.sp_space.specs.Machines.{machine_at}
 use Rattle.sp_space.proofs.HandLemmas.{asks-hand}
-use Rattle.sp_players.proofs.ResultLemmas.{if-err, if-ok}
+use Rattle.sp_machines.proofs.ResultLemmas.{if-err, if-ok}
 use Rattle.sp_space.proofs.parts.Parts.ask.Goals as goal
 
 pub op-requires : goal.op-requires

@@ -2,7 +2,7 @@ use Rattle.std.proofs.Common.{◌≡◌, Some, true, cond, refl, ap, sym, subst,
 use Rattle.std.specs.Prelude.{is_some, nat_eq}
 use Rattle.std.proofs.lemmas.Bool.{eq-eqb}
 use Rattle.sp_space.specs.Machines.{machine_at}
-use Rattle.sp_players.proofs.BeginLemmas.{begins-level}
+use Rattle.sp_machines.proofs.BeginLemmas.{begins-level}
 use Rattle.sp_space.proofs.BeginLemmas.{machine-made, may-begin, untouched-at}
 use Rattle.sp_space.proofs.parts.Parts.begin.Goals as goal
 

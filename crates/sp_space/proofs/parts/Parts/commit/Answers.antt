@@ -18,7 +18,7 @@ use Rattle.sp_space.proofs.FreeLemmas.{none-lent, same-lent}
 use Rattle.sp_space.proofs.HandLemmas.{asks-told, back-played, commit-played}
 use Rattle.sp_space.proofs.LentLemmas.{back-alone, commit-alone, lends-those, lent-hand, lent_ids}
 use Rattle.sp_space.proofs.NextLemmas.{commit-step}
-use Rattle.sp_players.proofs.ResultLemmas.{from-ok, value-ok}
+use Rattle.sp_machines.proofs.ResultLemmas.{from-ok, value-ok}
 use Rattle.sp_space.proofs.StandLemmas.{core-change, lent-event}
 use Rattle.sp_space.proofs.StepLemmas.{event-refused, two-events}
 use Rattle.sp_space.proofs.parts.Parts.commit.Goals as goal

@@ -7,7 +7,7 @@ use Rattle.sp_rules.specs.Space.{state_of}
 use Rattle.sp_core.specs.Cores.{lent_as}
 use Rattle.sp_core.specs.Hands.{HasFuel, finished}
 use Rattle.sp_space.specs.Events.{IsRefused}
-use Rattle.sp_players.specs.Coming.{fuel_at}
+use Rattle.sp_machines.specs.Coming.{fuel_at}
 use Rattle.sp_space.specs.Machines.{machine_at}
 use Rattle.sp_space.proofs.HandLemmas.{gone-played}
 use Rattle.sp_space.proofs.LentLemmas.{finish-alone, lends-those, lent-hand, lent_ids}

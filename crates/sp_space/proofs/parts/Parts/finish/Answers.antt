@@ -2,9 +2,9 @@ use Rattle.std.proofs.Common.{[]}
 use Rattle.sp_core.specs.Hands.{finished}
 use Rattle.sp_space.proofs.HandLemmas.{ended-hand}
 use Rattle.sp_space.proofs.NextLemmas.{ended-step, idle}
-use Rattle.sp_players.proofs.ResultLemmas.{if-err, if-ok, on-err}
+use Rattle.sp_machines.proofs.ResultLemmas.{if-err, if-ok, on-err}
 use Rattle.sp_space.proofs.StepLemmas.{event-refused, one-event}
-use Rattle.sp_players.specs.declared.player.Next.TheVariants as next
+use Rattle.sp_machines.specs.declared.task_machine.Next.TheVariants as next
 use Rattle.sp_space.proofs.parts.Parts.finish.Goals as goal
 
 pub returns-clause-done : goal.returns-clause-done

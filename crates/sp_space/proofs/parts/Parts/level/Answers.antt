@@ -4,10 +4,10 @@ use Rattle.sp_rules.specs.Space.{state_of}
 use Rattle.sp_rules.specs.State.{Living, task_at}
 use Rattle.sp_space.specs.Hands.{IsInHand, IsLevelHand}
 use Rattle.sp_space.specs.Machines.{machine_at}
-use Rattle.sp_players.specs.Players.{IsLevelAt, IsPlayed, Played}
+use Rattle.sp_machines.specs.Players.{IsLevelAt, IsPlayed, Played}
 use Rattle.sp_space.proofs.HandLemmas.{can-catch-up, level-stands}
 use Rattle.sp_space.proofs.LentLemmas.{lent-hand}
-use Rattle.sp_players.proofs.ResultLemmas.{ok-or-on, on-ok}
+use Rattle.sp_machines.proofs.ResultLemmas.{ok-or-on, on-ok}
 use Rattle.sp_space.proofs.StandLemmas.{machine-change}
 use Rattle.sp_space.proofs.parts.Parts.level.Goals as goal
 

@@ -1,10 +1,10 @@
 use Rattle.std.proofs.Common.{◌≡◌, inl, [], sym, ap, subst, ◌∙◌}
 use Rattle.sp_tasks.specs.Recorded.{Recorded}
 use Rattle.sp_core.specs.Hands.{finished, given_back}
-use Rattle.sp_players.specs.declared.player.Next.TheVariants as next
+use Rattle.sp_machines.specs.declared.task_machine.Next.TheVariants as next
 use Rattle.sp_space.proofs.HandLemmas.{made-fits, made-hand}
 use Rattle.sp_space.proofs.NextLemmas.{idle, last-step, made-ended, own-step}
-use Rattle.sp_players.proofs.ResultLemmas.{if-err, if-ok, on-err}
+use Rattle.sp_machines.proofs.ResultLemmas.{if-err, if-ok, on-err}
 use Rattle.sp_space.proofs.StepLemmas.{event-refused, one-event}
 use Rattle.sp_space.proofs.parts.Parts.made.Goals as goal
 

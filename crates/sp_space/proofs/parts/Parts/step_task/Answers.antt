@@ -10,7 +10,7 @@ use Rattle.sp_core.specs.Cores.{has_lent}
 use Rattle.sp_core.specs.declared.space_core.SpaceCore.{SpaceCore}
 use Rattle.sp_space.specs.Events.{IsStep, IsStepRefused}
 use Rattle.sp_space.proofs.FreeLemmas.{lends-none, still-free, unready}
-use Rattle.sp_players.proofs.ResultLemmas.{if-err, if-ok, on-err}
+use Rattle.sp_machines.proofs.ResultLemmas.{if-err, if-ok, on-err}
 use Rattle.sp_space.proofs.StandLemmas.{core-change}
 use Rattle.sp_space.proofs.StepLemmas.{not-ready}
 use Rattle.sp_space.proofs.parts.Parts.step_task.Goals as goal

@@ -1,6 +1,6 @@
 use Rattle.std.proofs.Common.{refl}
 use Rattle.std.proofs.lemmas.Result.{on_ok_weaker}
-use Rattle.sp_call_classes.specs.Thrown.{thrown_class}
+use Rattle.sp_requests.specs.Thrown.{thrown_class}
 use Rattle.sp_rules.specs.Endings.{close}
 use Rattle.sp_owner.specs.Owners.{owner_parts}
 use Rattle.sp_state.proofs.QuietLemmas.{parts-quiet, close_keeps}

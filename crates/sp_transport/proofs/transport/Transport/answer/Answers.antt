@@ -1,6 +1,6 @@
 use Rattle.std.proofs.Common.{ℕ, map, subst}
 use Rattle.sp_rules.specs.Frames.{answered_on}
-use Rattle.sp_peers.specs.AllAsked.{AreAsked}
+use Rattle.sp_requests.specs.AllAsked.{AreAsked}
 use Rattle.sp_rules.specs.State.{connection_at}
 use Rattle.sp_transport.specs.Said.{said}
 use Rattle.sp_transport.proofs.DialledLemmas.{has-peer, peer-line}

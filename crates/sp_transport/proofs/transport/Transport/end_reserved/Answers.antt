@@ -1,7 +1,7 @@
 use Rattle.std.proofs.Common.{ℕ, Some, Option, filter, sym, subst}
 use Rattle.uuid.specs.declared.Uuid.{Uuid}
 use Rattle.sp_rules.specs.Endings.{is_of_connection}
-use Rattle.sp_peers.proofs.LineLemmas.{number-line}
+use Rattle.sp_requests.proofs.LineLemmas.{number-line}
 use Rattle.sp_requests.specs.Ends.{IsEnded, IsEnding}
 use Rattle.sp_transport.proofs.EndingLemmas.{ended-told, now-ended, number-is}
 use Rattle.sp_transport.proofs.OpeningLemmas.{asked-first}

@@ -1,7 +1,7 @@
 use Rattle.std.proofs.Common.{ℕ, Some, Option, filter, sym, subst}
 use Rattle.uuid.specs.declared.Uuid.{Uuid}
 use Rattle.sp_rules.specs.Endings.{is_of_connection}
-use Rattle.sp_peers.proofs.LineLemmas.{number-line}
+use Rattle.sp_requests.proofs.LineLemmas.{number-line}
 use Rattle.sp_requests.proofs.AskingLemmas.{if-ok}
 use Rattle.sp_requests.specs.Ends.{IsEnding}
 use Rattle.sp_transport.proofs.EndingLemmas.{number-is}

@@ -1,6 +1,6 @@
 use Rattle.std.proofs.Common.{◌≡◌, Some, subst, ◌∙◌}
-use Rattle.sp_connections.specs.Tables.{link_of}
-use Rattle.sp_connections.specs.declared.connection.Link.{Link}
+use Rattle.sp_requests.specs.Tables.{link_of}
+use Rattle.sp_requests.specs.declared.connection.Link.{Link}
 use Rattle.sp_transport.proofs.ViewLemmas.{hello-dialling, hello-open, hello-unlinked}
 use Rattle.sp_transport.proofs.transport.Transport.hello_came.Goals as goal
 

@@ -1,7 +1,7 @@
 use Rattle.std.proofs.Common.{◌∷◌, ◌++◌, [], Some, sym, subst}
 use Rattle.net_message.specs.declared.message.Message.{Message}
-use Rattle.sp_connections.specs.Tables.{opened}
-use Rattle.sp_peers.specs.AllAsked.{AreAsked, sent_on}
+use Rattle.sp_requests.specs.Tables.{opened}
+use Rattle.sp_requests.specs.AllAsked.{AreAsked, sent_on}
 use Rattle.sp_transport.proofs.OpeningLemmas.{asked-first, now-opened}
 use Rattle.sp_transport.proofs.transport.Transport.open_reserved.Goals as goal
 

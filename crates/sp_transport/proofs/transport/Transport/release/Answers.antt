@@ -1,6 +1,6 @@
 use Rattle.std.proofs.Common.{Option, subst}
 use Rattle.sp_requests.specs.declared.requests.Requests.{Requests}
-use Rattle.sp_peers.specs.AllAsked.{IsRoom}
+use Rattle.sp_requests.specs.AllAsked.{IsRoom}
 use Rattle.sp_transport.specs.Said.{said}
 use Rattle.sp_transport.proofs.SaidLemmas.{none-noted}
 use Rattle.sp_transport.proofs.transport.Transport.release.Goals as goal

@@ -2,7 +2,7 @@ use Rattle.std.proofs.Common.{ℕ, filter, subst, ◌∙◌}
 use Rattle.std.specs.Prelude.{not}
 use Rattle.sp_rules.specs.ParkedFrames.{is_call_on}
 use Rattle.sp_rules.specs.State as rules
-use Rattle.sp_peers.specs.AllAsked.{AreAsked}
+use Rattle.sp_requests.specs.AllAsked.{AreAsked}
 use Rattle.sp_rules.specs.State.{connection_at}
 use Rattle.sp_transport.specs.Said.{said}
 use Rattle.sp_transport.proofs.DialledLemmas.{has-peer, peer-line}

@@ -3,7 +3,7 @@ use Rattle.std.specs.Prelude.{find, not, option_and_then}
 use Rattle.sp_rules.specs.Frames.{tells_on}
 use Rattle.sp_rules.specs.State as rules
 use Rattle.sp_requests.specs.Asking.{told}
-use Rattle.sp_peers.specs.AllAsked.{AreAsked}
+use Rattle.sp_requests.specs.AllAsked.{AreAsked}
 use Rattle.sp_rules.specs.State.{connection_at}
 use Rattle.sp_transport.specs.Said.{said}
 use Rattle.sp_transport.proofs.DialledLemmas.{has-peer, peer-line}

@@ -3,7 +3,7 @@ use Rattle.std.specs.Prelude.{◌||◌}
 use Rattle.uuid.specs.declared.Uuid.{Uuid}
 use Rattle.sp_rules.specs.Requests.{add_request}
 use Rattle.sp_rules.specs.State.{State, Waits, connection_to, is_dialling}
-use Rattle.sp_connections.specs.Tables.{AreConnections}
+use Rattle.sp_requests.specs.Tables.{AreConnections}
 use Rattle.sp_requests.specs.Asking.{asked_of}
 use Rattle.sp_outputs.specs.declared.output.Output.TheVariants as output
 use Rattle.sp_transport.specs.Transports.{IsTransport}

@@ -1,7 +1,7 @@
 use Rattle.std.proofs.Common.{List, sym, subst}
 use Rattle.std.specs.List.{flat_map}
 use Rattle.sp_rules.specs.State as rules
-use Rattle.sp_peers.proofs.LineLemmas.{number-line}
+use Rattle.sp_requests.proofs.LineLemmas.{number-line}
 use Rattle.sp_transport.specs.Asking.{AreNextOut, welcome}
 use Rattle.sp_transport.specs.Said.{said}
 use Rattle.sp_transport.specs.Transports.{call_number}

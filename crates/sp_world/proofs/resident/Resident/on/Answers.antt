@@ -11,17 +11,17 @@ use Rattle.sp_world.proofs.WiringLemmas.{all-err}
 use Rattle.sp_world.proofs.resident.Resident.on.Goals as goal
 
 pub returns-clause-taken : goal.returns-clause-taken
-returns-clause-taken g c = λ s r. takes g.S.Inhabitant.is_space s c.args.self.now c.keep_reserved.new.self ((event_of c.args.event.now) ∷ []) (refused_event (event_of c.args.event.now) s) c.in_ok-outputs.outputs c.keep_reserved.result
+returns-clause-taken g c = λ s r. takes g.S.WorldSpace.is_space s c.args.self.now c.keep_reserved.new.self ((event_of c.args.event.now) ∷ []) (refused_event (event_of c.args.event.now) s) c.in_ok-outputs.outputs c.keep_reserved.result
     r
     (one-refusal s.setting s.state (event_of c.args.event.now) (lent-none c.args.event.now) ∙ c.in_ok-outputs.ensures.accepted s.setting s.state r.space)
     (c.keep_reserved.ensures.answers ∙ ap (λ l. l ++ c.in_ok-outputs.outputs ∷ []) c.reserve.ensures.items)
     (c.keep_reserved.ensures.row ∙ ap length c.reserve.ensures.items)
     (c.in_ok-outputs.ensures.outputs s.setting s.state r.space ∙ sym (one-answer s.setting s.state (event_of c.args.event.now)))
-    (subst (g.S.Inhabitant.is_space s.setting (after_event s.setting ((event_of c.args.event.now)) s.state).0) (sym c.keep_reserved.ensures.space) (c.in_ok-outputs.ensures.state s.setting s.state r.space))
+    (subst (g.S.WorldSpace.is_space s.setting (after_event s.setting ((event_of c.args.event.now)) s.state).0) (sym c.keep_reserved.ensures.space) (c.in_ok-outputs.ensures.state s.setting s.state r.space))
 
 pub returns-in_err-outputs-clause-refused : goal.returns-in_err-outputs-clause-refused
 returns-in_err-outputs-clause-refused g c = let p = err_from_is_err_and c.from_residual.result c.from_residual.ensures.1 in rw (p.1, p.2) (λ s r.
     subst (λ (x : Option Refusal). RefusesOrLacks x c.in_err-outputs.field-0.0) (sym (one-refusal s.setting s.state (event_of c.args.event.now) (lent-none c.args.event.now))) (c.in_err-outputs.ensures.refused s.setting s.state r.space))
 
 pub returns-in_err-outputs-clause-same : goal.returns-in_err-outputs-clause-same
-returns-in_err-outputs-clause-same g c = all-err c.from_residual.result (λ s r. stays g.S.Inhabitant.is_space s c.args.self.now _ (c.in_err-outputs.ensures.unchanged s.setting s.state r.space) c.reserve.ensures.items r)
+returns-in_err-outputs-clause-same g c = all-err c.from_residual.result (λ s r. stays g.S.WorldSpace.is_space s c.args.self.now _ (c.in_err-outputs.ensures.unchanged s.setting s.state r.space) c.reserve.ensures.items r)

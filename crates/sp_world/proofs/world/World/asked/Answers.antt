@@ -3,4 +3,4 @@ use Rattle.sp_world.proofs.MakeLemmas.{still-wired}
 use Rattle.sp_world.proofs.world.World.asked.Goals as goal
 
 pub returns : goal.returns
-returns g c = λ w h. c.as_slice.ensures ∙ sym (still-wired g.S.Inhabitant.is_space w c.args.self.now c.requires h).dials
+returns g c = λ w h. c.as_slice.ensures ∙ sym (still-wired g.S.WorldSpace.is_space w c.args.self.now c.requires h).dials

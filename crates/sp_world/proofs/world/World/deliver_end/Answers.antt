@@ -10,12 +10,12 @@ use Rattle.sp_world.proofs.world.World.deliver_end.Goals as goal
 
 pub returns-then-is_over-clause-made : goal.returns-then-is_over-clause-made
 returns-then-is_over-clause-made g c = on_ok_weaker c.close.result (λ made.
-    makes-other g.S.Inhabitant.is_space (close_end c.args.conn (end_of c.args.to) c.args.space) (deliver_last c.args.conn (end_of c.args.to) c.args.space) c.args.self.now c.close.new.self
+    makes-other g.S.WorldSpace.is_space (close_end c.args.conn (end_of c.args.to) c.args.space) (deliver_last c.args.conn (end_of c.args.to) c.args.space) c.args.self.now c.close.new.self
     (λ w h. last-fits c.args.conn c.args.space (end_of c.args.to) w
     (ap (λ (n : End). comes_over n (slice_get w.pipes c.args.conn)) (sym c.other.ensures) ∙ sym (c.is_over.ensures w.pipes h.pipes) ∙ c.if-is_over.true)) made) c.close.ensures.made
 
 pub returns-clause-made : goal.returns-clause-made
 returns-clause-made g c =
-    makes-nothing g.S.Inhabitant.is_space (deliver_last c.args.conn (end_of c.args.to) c.args.space) c.args.self.now _
+    makes-nothing g.S.WorldSpace.is_space (deliver_last c.args.conn (end_of c.args.to) c.args.space) c.args.self.now _
     (λ w h. last-not c.args.conn c.args.space (end_of c.args.to) w
     (ap (λ (n : End). comes_over n (slice_get w.pipes c.args.conn)) (sym c.other.ensures) ∙ sym (c.is_over.ensures w.pipes h.pipes) ∙ c.if-is_over.false)) refl refl c.requires (λ w h. h)

@@ -6,6 +6,6 @@ use Rattle.sp_world.proofs.world.World.new.Given as goal
 
 abbrev pub invariant-loop-space : goal.invariant-loop-space
 invariant-loop-space g l = record {
-  world : (settings : List Setting) → AreNew g.S.Inhabitant.is_space settings l.yielded → IsWorld g.S.Inhabitant.is_space (new_world settings) l.world;
+  world : (settings : List Setting) → AreNew g.S.WorldSpace.is_space settings l.yielded → IsWorld g.S.WorldSpace.is_space (new_world settings) l.world;
   settled : is_settled l.world ≡ true;
 }

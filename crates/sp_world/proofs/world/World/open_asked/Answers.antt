@@ -24,7 +24,7 @@ pub returns-in_err-taken-clause-kept : goal.returns-in_err-taken-clause-kept
 returns-in_err-taken-clause-kept g c =
     let old = c.args.self.now in
     all-err c.from_residual-in_err-taken.result
-    (keeps-after g.S.Inhabitant.is_space old (record old { wiring = record old.wiring { pipes = c.reserve.new.self } }) c.bring.new.self refl refl refl
+    (keeps-after g.S.WorldSpace.is_space old (record old { wiring = record old.wiring { pipes = c.reserve.new.self } }) c.bring.new.self refl refl refl
     (λ w h. wired-pipes w w old.wiring (record old.wiring { pipes = c.reserve.new.self }) refl refl refl refl (c.reserve.ensures.same w.pipes h.pipes) h) c.in_err-taken.ensures.kept)
 
 pub returns-then-taken-clause-made : goal.returns-then-taken-clause-made
@@ -32,7 +32,7 @@ returns-then-taken-clause-made g c =
     let old = c.args.self.now in
     let a = c.args.dialler in
     let b = c.args.dialled in
-    makes-taken g.S.Inhabitant.is_space a (Opened c.len.result c.id.result) (open_next a b) (λ w. record w { asked = without_pair a b w.asked; pipes = w.pipes ++ new_pipe a b ∷ [] }) old c.bring.new.self _ c.in_ok-taken.taken c.if-taken.true c.in_ok-taken.ensures.heard
+    makes-taken g.S.WorldSpace.is_space a (Opened c.len.result c.id.result) (open_next a b) (λ w. record w { asked = without_pair a b w.asked; pipes = w.pipes ++ new_pipe a b ∷ [] }) old c.bring.new.self _ c.in_ok-taken.taken c.if-taken.true c.in_ok-taken.ensures.heard
     (λ w h. ap (λ (n : ℕ). act w a (Opened n (id_at b w)) (record w { asked = without_pair a b w.asked; pipes = w.pipes ++ new_pipe a b ∷ [] })) (sym (c.len.ensures w.pipes (c.reserve.ensures.same w.pipes h.wired.pipes)))
     ∙ ap (λ (o : Option Uuid). act w a (Opened c.len.result o) (record w { asked = without_pair a b w.asked; pipes = w.pipes ++ new_pipe a b ∷ [] })) (sym (c.id.ensures w h.spaces)))
     (λ w. refl) (λ w. refl) refl refl refl
@@ -46,7 +46,7 @@ returns-clause-made g c =
     let old = c.args.self.now in
     let a = c.args.dialler in
     let b = c.args.dialled in
-    makes-missed g.S.Inhabitant.is_space a (Opened c.len.result c.id.result) (open_next a b) (λ w. record w { asked = without_pair a b w.asked; pipes = w.pipes ++ new_pipe a b ∷ [] }) old c.bring.new.self c.bring.new.self c.in_ok-taken.taken c.if-taken.false c.in_ok-taken.ensures.heard
+    makes-missed g.S.WorldSpace.is_space a (Opened c.len.result c.id.result) (open_next a b) (λ w. record w { asked = without_pair a b w.asked; pipes = w.pipes ++ new_pipe a b ∷ [] }) old c.bring.new.self c.bring.new.self c.in_ok-taken.taken c.if-taken.false c.in_ok-taken.ensures.heard
     (λ w h. ap (λ (n : ℕ). act w a (Opened n (id_at b w)) (record w { asked = without_pair a b w.asked; pipes = w.pipes ++ new_pipe a b ∷ [] })) (sym (c.len.ensures w.pipes (c.reserve.ensures.same w.pipes h.wired.pipes)))
     ∙ ap (λ (o : Option Uuid). act w a (Opened c.len.result o) (record w { asked = without_pair a b w.asked; pipes = w.pipes ++ new_pipe a b ∷ [] })) (sym (c.id.ensures w h.spaces)))
     (λ w. refl) refl refl refl

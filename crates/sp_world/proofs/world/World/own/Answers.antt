@@ -7,10 +7,10 @@ use Rattle.sp_world.proofs.world.World.own.Goals as goal
 
 pub returns-then-is_own_event-clause-made : goal.returns-then-is_own_event-clause-made
 returns-then-is_own_event-clause-made g c =
-    makes-told g.S.Inhabitant.is_space c.args.space (event_of c.args.event.now) (happens (Own c.args.space (event_of c.args.event.now))) c.args.self.now c.tell.new.self c.in_ok-_taken._taken c.in_ok-_taken.ensures.heard
+    makes-told g.S.WorldSpace.is_space c.args.space (event_of c.args.event.now) (happens (Own c.args.space (event_of c.args.event.now))) c.args.self.now c.tell.new.self c.in_ok-_taken._taken c.in_ok-_taken.ensures.heard
     (λ w. own-fits c.args.space (event_of c.args.event.now) w (sym c.is_own_event.ensures ∙ c.if-is_own_event.true)) c.tell.ensures.wiring
 
 pub returns-clause-made : goal.returns-clause-made
 returns-clause-made g c =
-    makes-nothing g.S.Inhabitant.is_space (happens (Own c.args.space (event_of c.args.event.now))) c.args.self.now _
+    makes-nothing g.S.WorldSpace.is_space (happens (Own c.args.space (event_of c.args.event.now))) c.args.self.now _
     (λ w h. own-not c.args.space (event_of c.args.event.now) w (sym c.is_own_event.ensures ∙ c.if-is_own_event.false)) refl refl c.requires (λ w h. h)

@@ -5,4 +5,4 @@ use Rattle.sp_world.proofs.MakeLemmas.{shown-queued, still-wired}
 use Rattle.sp_world.proofs.world.World.queued.Goals as goal
 
 pub returns : goal.returns
-returns g c = λ w h. c.is_queued.ensures w.pipes (still-wired g.S.Inhabitant.is_space w c.args.self.now c.requires h).pipes ∙ shown-queued (slice_get w.pipes c.args.conn) (end_of c.args.to)
+returns g c = λ w h. c.is_queued.ensures w.pipes (still-wired g.S.WorldSpace.is_space w c.args.self.now c.requires h).pipes ∙ shown-queued (slice_get w.pipes c.args.conn) (end_of c.args.to)

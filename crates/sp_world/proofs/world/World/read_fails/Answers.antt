@@ -9,9 +9,9 @@ use Rattle.sp_world.proofs.world.World.read_fails.Goals as goal
 
 pub returns-in-Some-clause-made : goal.returns-in-Some-clause-made
 returns-in-Some-clause-made g c = on_ok_weaker c.read_fails_at.result (λ made.
-    makes-other g.S.Inhabitant.is_space (unread_end c.args.conn (end_of c.args.at) c.in-Some.space) (read_fails c.args.conn (end_of c.args.at)) c.args.self.now c.read_fails_at.new.self
+    makes-other g.S.WorldSpace.is_space (unread_end c.args.conn (end_of c.args.at) c.in-Some.space) (read_fails c.args.conn (end_of c.args.at)) c.args.self.now c.read_fails_at.new.self
     (λ w h. read-fits c.args.conn c.in-Some.space (end_of c.args.at) w (sym (c.live_space.ensures w.pipes h.pipes) ∙ c.in-Some.is)) made) c.read_fails_at.ensures.made
 
 pub returns-in-None-clause-made : goal.returns-in-None-clause-made
 returns-in-None-clause-made g c =
-    makes-nothing g.S.Inhabitant.is_space (read_fails c.args.conn (end_of c.args.at)) c.args.self.now _ (λ w h. read-not c.args.conn (end_of c.args.at) w (sym (c.live_space.ensures w.pipes h.pipes) ∙ c.in-None.is)) refl refl c.requires (λ w h. h)
+    makes-nothing g.S.WorldSpace.is_space (read_fails c.args.conn (end_of c.args.at)) c.args.self.now _ (λ w h. read-not c.args.conn (end_of c.args.at) w (sym (c.live_space.ensures w.pipes h.pipes) ∙ c.in-None.is)) refl refl c.requires (λ w h. h)

@@ -10,12 +10,12 @@ use Rattle.sp_world.proofs.world.World.read_fails_at.Goals as goal
 
 pub returns-then-taken-clause-made : goal.returns-then-taken-clause-made
 returns-then-taken-clause-made g c =
-    makes-taken g.S.Inhabitant.is_space c.args.space (ReadFailed c.args.conn) (unread_end c.args.conn (end_of c.args.at) c.args.space) (on_side ends c.args.conn (end_of c.args.at)) c.args.self.now c.bring.new.self _ c.in_ok-taken.taken c.if-taken.true c.in_ok-taken.ensures.heard
+    makes-taken g.S.WorldSpace.is_space c.args.space (ReadFailed c.args.conn) (unread_end c.args.conn (end_of c.args.at) c.args.space) (on_side ends c.args.conn (end_of c.args.at)) c.args.self.now c.bring.new.self _ c.in_ok-taken.taken c.if-taken.true c.in_ok-taken.ensures.heard
     (λ w h. refl) (λ w. refl) (λ w. refl) refl refl refl
     (λ w h. wired-moved w (on_side ends c.args.conn (end_of c.args.at) w) c.args.self.now.wiring c.bring.new.self.wiring _ c.bring.ensures.wiring refl refl refl refl
     (λ ps k e. subst (λ (qs : List Pipe). ArePipes (at_index (set_side ends (end_of c.args.at)) c.args.conn qs) c.end.new.self) e (c.end.ensures.ended ps k)) h)
 
 pub returns-clause-made : goal.returns-clause-made
 returns-clause-made g c =
-    makes-missed g.S.Inhabitant.is_space c.args.space (ReadFailed c.args.conn) (unread_end c.args.conn (end_of c.args.at) c.args.space) (on_side ends c.args.conn (end_of c.args.at)) c.args.self.now c.bring.new.self c.bring.new.self c.in_ok-taken.taken c.if-taken.false c.in_ok-taken.ensures.heard
+    makes-missed g.S.WorldSpace.is_space c.args.space (ReadFailed c.args.conn) (unread_end c.args.conn (end_of c.args.at) c.args.space) (on_side ends c.args.conn (end_of c.args.at)) c.args.self.now c.bring.new.self c.bring.new.self c.in_ok-taken.taken c.if-taken.false c.in_ok-taken.ensures.heard
     (λ w h. refl) (λ w. refl) refl refl refl (λ w h. subst (IsWired w) (sym c.bring.ensures.wiring) h)

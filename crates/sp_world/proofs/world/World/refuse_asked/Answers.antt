@@ -7,10 +7,10 @@ use Rattle.sp_world.proofs.world.World.refuse_asked.Goals as goal
 
 pub returns-in-Some-clause-made : goal.returns-in-Some-clause-made
 returns-in-Some-clause-made g c = on_ok_weaker c.refuse_to.result (λ made.
-    still-makes-other g.S.Inhabitant.is_space (refuse_peer c.args.dialler c.args.dialled c.in-Some.peer) (refuse_next c.args.dialler c.args.dialled) c.args.self.now c.refuse_to.new.self
+    still-makes-other g.S.WorldSpace.is_space (refuse_peer c.args.dialler c.args.dialled c.in-Some.peer) (refuse_next c.args.dialler c.args.dialled) c.args.self.now c.refuse_to.new.self
     (λ w h. refuse-fits c.args.dialler c.args.dialled w c.in-Some.peer (sym (c.id.ensures w h.spaces) ∙ c.in-Some.is)) made) c.refuse_to.ensures.made
 
 pub returns-in-None-clause-made : goal.returns-in-None-clause-made
 returns-in-None-clause-made g c =
-    still-makes-nothing g.S.Inhabitant.is_space (refuse_next c.args.dialler c.args.dialled) c.args.self.now _
+    still-makes-nothing g.S.WorldSpace.is_space (refuse_next c.args.dialler c.args.dialled) c.args.self.now _
     (λ w h. refuse-nobody c.args.dialler c.args.dialled w (sym (c.id.ensures w h.spaces) ∙ c.in-None.is)) refl refl c.requires (λ w h. h)

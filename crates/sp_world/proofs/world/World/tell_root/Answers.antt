@@ -10,7 +10,7 @@ use Rattle.sp_world.proofs.world.World.tell_root.Goals as goal
 pub returns-then-space-len-clause-heard : goal.returns-then-space-len-clause-heard
 returns-then-space-len-clause-heard g c =
     let le : length c.args.self.now.residents.items ≤ c.args.space = subst (λ (n : ℕ). n ≤ c.args.space) (c.len.ensures ∙ c.args.self.now.residents.ok.0) c.if-space-len.true in
-    nobody g.S.Inhabitant.is_space c.args.space (refused_event (Root c.args.method c.args.arguments.now c.args.fuel)) (one_event (Root c.args.method c.args.arguments.now c.args.fuel)) c.args.self.now (record c.args.self.now { refused = None })
+    nobody g.S.WorldSpace.is_space c.args.space (refused_event (Root c.args.method c.args.arguments.now c.args.fuel)) (one_event (Root c.args.method c.args.arguments.now c.args.fuel)) c.args.self.now (record c.args.self.now { refused = None })
     (slice_get_past c.args.self.now.residents.items c.args.space le) refl refl c.requires
 
 pub returns-clause-heard : goal.returns-clause-heard
@@ -18,7 +18,7 @@ returns-clause-heard g c =
     let old = c.args.self.now in
     let mid = record old { residents = with_item old.residents c.args.space c.root-answer.new.self } in
     let there = slice_get_read old.residents.items c.len.result c.args.space c.index_mut.result.now (c.len.ensures ∙ old.residents.ok.0) c.if-space-len.false c.index_mut.ensures.value in
-    heard-of g.S.Inhabitant.is_space c.args.space (refused_event (Root c.args.method c.args.arguments.now c.args.fuel)) (one_event (Root c.args.method c.args.arguments.now c.args.fuel)) old mid c.hear.new.self c.index_mut.result.now c.root-answer.new.self c.root-answer.result c.hear.result
+    heard-of g.S.WorldSpace.is_space c.args.space (refused_event (Root c.args.method c.args.arguments.now c.args.fuel)) (one_event (Root c.args.method c.args.arguments.now c.args.fuel)) old mid c.hear.new.self c.index_mut.result.now c.root-answer.new.self c.root-answer.result c.hear.result
     c.requires there refl
     (record { taken = c.root-answer.ensures.taken; refused = c.root-answer.ensures.refused; same = c.root-answer.ensures.same })
     (record { taken = c.hear.ensures.taken; lacks = c.hear.ensures.lacks; refused = c.hear.ensures.refused })
@@ -28,7 +28,7 @@ returns-clause-kept g c =
     let old = c.args.self.now in
     let mid = record old { residents = with_item old.residents c.args.space c.root-answer.new.self } in
     let there = slice_get_read old.residents.items c.len.result c.args.space c.index_mut.result.now (c.len.ensures ∙ old.residents.ok.0) c.if-space-len.false c.index_mut.ensures.value in
-    kept-of g.S.Inhabitant.is_space c.args.space (refused_event (Root c.args.method c.args.arguments.now c.args.fuel)) (one_event (Root c.args.method c.args.arguments.now c.args.fuel)) old mid c.hear.new.self c.index_mut.result.now c.root-answer.new.self c.root-answer.result c.hear.result
+    kept-of g.S.WorldSpace.is_space c.args.space (refused_event (Root c.args.method c.args.arguments.now c.args.fuel)) (one_event (Root c.args.method c.args.arguments.now c.args.fuel)) old mid c.hear.new.self c.index_mut.result.now c.root-answer.new.self c.root-answer.result c.hear.result
     there refl refl refl refl
     (record { taken = c.root-answer.ensures.taken; refused = c.root-answer.ensures.refused; same = c.root-answer.ensures.same })
     (record { taken = c.hear.ensures.taken; lacks = c.hear.ensures.lacks; refused = c.hear.ensures.refused })

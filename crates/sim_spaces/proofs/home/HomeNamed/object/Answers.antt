@@ -1,5 +1,0 @@
-use Rattle.std.proofs.Common.{Some, ap, ◌∙◌}
-use Rattle.sim_spaces.proofs.home.HomeNamed.object.Goals as goal
-
-pub returns-in-Some : goal.returns-in-Some
-returns-in-Some c = λ g s is. ap Some c.shown_as.ensures ∙ c.in-Some.ensures g s is

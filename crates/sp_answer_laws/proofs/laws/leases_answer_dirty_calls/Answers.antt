@@ -1,5 +1,0 @@
-use Rattle.sp_answer_laws.proofs.StayLaws
-use Rattle.sp_answer_laws.proofs.laws.leases_answer_dirty_calls.Goals as goal
-
-pub returns : goal.returns
-returns c = StayLaws.leases_answer_dirty_calls c.frames_go_their_way.ensures c.parked_results_came.ensures

@@ -1,5 +1,0 @@
-use Rattle.sp_answer_laws.proofs.SenderLemmas
-use Rattle.sp_answer_laws.proofs.laws.parked_frames_came.Goals as goal
-
-pub returns : goal.returns
-returns c = SenderLemmas.parked_frames_came c.frames_go_their_way.ensures c.parked_results_came.ensures

@@ -1,5 +1,0 @@
-use Rattle.sp_answer_laws.proofs.StayLaws
-use Rattle.sp_answer_laws.proofs.laws.welcome_frames_close_nothing.Goals as goal
-
-pub returns : goal.returns
-returns c = StayLaws.welcome_frames_close_nothing c.frames_go_their_way.ensures c.parked_results_came.ensures

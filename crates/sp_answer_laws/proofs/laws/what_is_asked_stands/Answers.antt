@@ -1,5 +1,0 @@
-use Rattle.sp_answer_laws.proofs.StayLaws
-use Rattle.sp_answer_laws.proofs.laws.what_is_asked_stands.Goals as goal
-
-pub returns : goal.returns
-returns c = StayLaws.what_is_asked_stands c.frames_go_their_way.ensures c.parked_results_came.ensures

@@ -1,9 +1,0 @@
-pub mod Asked
-pub mod Welcome
-pub mod Results
-pub mod Told
-pub mod Unbroken
-pub mod Senders
-pub mod RequestOrder
-pub mod Heard
-pub mod InTime

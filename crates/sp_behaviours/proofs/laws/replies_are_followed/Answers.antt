@@ -1,5 +1,0 @@
-use Rattle.sp_behaviours.proofs.Following.{lent-left, replies-follow}
-use Rattle.sp_behaviours.proofs.laws.replies_are_followed.Goals as goal
-
-pub returns : goal.returns
-returns c = record { follows = replies-follow; lent = lent-left }

@@ -1,4 +1,0 @@
-mod IdLemmas
-mod EndNotes
-mod EndLemmas
-mod RowLemmas

@@ -1,5 +1,0 @@
-use Rattle.sp_book_laws.proofs.EndLemmas
-use Rattle.sp_book_laws.proofs.laws.ends_are_runs.Goals as goal
-
-pub returns : goal.returns
-returns c = record { ends = EndLemmas.ends_are_runs c.lookups_end_as_named.ensures; tasks = EndLemmas.tasks_end_as_runs }

@@ -1,2 +1,0 @@
-pub mod ClassSets
-pub mod Thrown

@@ -1,5 +1,0 @@
-use Rattle.sp_call_laws.proofs.CallEndLemmas
-use Rattle.sp_call_laws.proofs.laws.calls_end_as_named.Goals as goal
-
-pub returns : goal.returns
-returns c = CallEndLemmas.calls_end_as_named

@@ -1,5 +1,0 @@
-use Rattle.sp_call_laws.proofs.StartedLemmas
-use Rattle.sp_call_laws.proofs.laws.calls_start_one_task.Goals as goal
-
-pub returns : goal.returns
-returns c = StartedLemmas.calls_start_one_task

@@ -1,5 +1,0 @@
-use Rattle.sp_call_laws.proofs.DirectionLemmas
-use Rattle.sp_call_laws.proofs.laws.frames_go_their_way.Goals as goal
-
-pub returns : goal.returns
-returns c = DirectionLemmas.frames_go_their_way

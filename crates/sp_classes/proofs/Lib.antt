@@ -1,3 +1,0 @@
-pub mod KeptKinds
-pub mod Told
-pub mod Selected

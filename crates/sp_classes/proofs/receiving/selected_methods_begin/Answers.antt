@@ -1,5 +1,0 @@
-use Rattle.sp_classes.proofs.Selected.{selected_begins}
-use Rattle.sp_classes.proofs.receiving.selected_methods_begin.Goals as goal
-
-pub returns : goal.returns
-returns c = selected_begins

@@ -1,5 +1,0 @@
-use Rattle.sp_frame_laws.proofs.SilentLemmas
-use Rattle.sp_frame_laws.proofs.laws.ended_connections_are_silent.Goals as goal
-
-pub returns : goal.returns
-returns c = SilentLemmas.ended_connections_are_silent

@@ -1,5 +1,0 @@
-use Rattle.sp_frame_laws.proofs.OpenLemmas
-use Rattle.sp_frame_laws.proofs.laws.frames_go_where_open.Goals as goal
-
-pub returns : goal.returns
-returns c = OpenLemmas.frames_go_where_open

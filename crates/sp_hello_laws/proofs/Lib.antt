@@ -1,5 +1,0 @@
-pub mod TurnLemmas
-pub mod RowLemmas
-pub mod FirstLemmas
-pub mod TableLemmas
-pub mod HandShakeLemmas

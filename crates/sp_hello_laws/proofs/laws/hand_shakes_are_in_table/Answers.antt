@@ -1,5 +1,0 @@
-use Rattle.sp_hello_laws.proofs.HandShakeLemmas
-use Rattle.sp_hello_laws.proofs.laws.hand_shakes_are_in_table.Goals as goal
-
-pub returns : goal.returns
-returns c = HandShakeLemmas.hand_shakes_are_in_table

@@ -1,2 +1,0 @@
-pub mod Hellos
-pub mod HandShakes

@@ -1,3 +1,0 @@
-mod GuardLemmas
-mod ResultLemmas
-mod GoingLemmas

@@ -1,5 +1,0 @@
-use Rattle.sp_hold_laws.proofs.GuardLemmas
-use Rattle.sp_hold_laws.proofs.laws.nothing_holds_what_goes.Goals as goal
-
-pub returns : goal.returns
-returns c = GuardLemmas.nothing_holds_what_goes

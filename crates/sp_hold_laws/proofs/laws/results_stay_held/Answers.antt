@@ -1,5 +1,0 @@
-use Rattle.sp_hold_laws.proofs.ResultLemmas
-use Rattle.sp_hold_laws.proofs.laws.results_stay_held.Goals as goal
-
-pub returns : goal.returns
-returns c = ResultLemmas.results_stay_held

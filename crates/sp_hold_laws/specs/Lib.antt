@@ -1,4 +1,0 @@
-pub mod OneObject
-pub mod Guards
-pub mod HeldResults
-pub mod Going

@@ -1,5 +1,0 @@
-use Rattle.sp_kept_laws.proofs.GrantLaws
-use Rattle.sp_kept_laws.proofs.laws.dirty_calls_are_awaited.Goals as goal
-
-pub returns : goal.returns
-returns c = GrantLaws.dirty_calls_are_awaited c.holders_are_counted.ensures

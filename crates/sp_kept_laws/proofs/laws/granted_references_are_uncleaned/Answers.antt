@@ -1,5 +1,0 @@
-use Rattle.sp_kept_laws.proofs.CleanLaws
-use Rattle.sp_kept_laws.proofs.laws.granted_references_are_uncleaned.Goals as goal
-
-pub returns : goal.returns
-returns c = CleanLaws.granted_references_are_uncleaned c.calls_on_their_way_are_requests.ensures c.calls_are_made_when_due.ensures c.calls_keep_their_order.ensures

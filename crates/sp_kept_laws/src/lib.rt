@@ -1,5 +1,0 @@
-//! That nothing that is held is lost, as laws of the rules of spaces and worlds, each the contract of a
-//! function. There is no other code here.
-#![tactic(auto)]
-
-pub mod laws;

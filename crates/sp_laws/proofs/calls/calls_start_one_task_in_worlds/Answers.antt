@@ -1,0 +1,5 @@
+use Rattle.sp_laws.proofs.StartedLemmas
+use Rattle.sp_laws.proofs.calls.calls_start_one_task_in_worlds.Goals as goal
+
+pub returns : goal.returns
+returns c = StartedLemmas.calls_start_one_task_in_worlds

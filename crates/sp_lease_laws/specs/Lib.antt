@@ -1,4 +1,0 @@
-pub mod OnTheWay
-pub mod Numbered
-pub mod Moments
-pub mod MadeWhenDue

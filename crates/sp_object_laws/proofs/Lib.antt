@@ -1,2 +1,0 @@
-mod NoneLemmas
-mod WholeLemmas

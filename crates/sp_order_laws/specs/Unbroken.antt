@@ -1,0 +1,52 @@
+-- Where nothing fails no connection closes: each frame that comes is welcome, and what was opened stays open (this project's own protocol; the Java RMI specification leaves connections to TCP).
+use Rattle.std.specs.Prelude.{◌≡◌, ℕ, Bool, true, false, List, ◌∷◌, Option, None, Some, option_map, slice_get}
+use Rattle.std.specs.Str.{bytes_eq}
+use Rattle.net_message.specs.declared.message.Message.{Message}
+use Rattle.uuid.specs.declared.Uuid.{Uuid}
+use Rattle.sp_rules.specs.Classes.{Setting}
+use Rattle.sp_rules.specs.Events.{Opened}
+use Rattle.sp_rules.specs.Laws.{AllOf}
+use Rattle.sp_rules.specs.State.{Connection, connection_at, is_open}
+use Rattle.sp_rules.specs.Worlds.{World, Space, Pipe, End, Over, WorldEvent, Refuse, ReadFails, WriteFails, side, id_in, run, new_world}
+use Rattle.sp_order_laws.specs.Ends.{IsOneOf}
+use Rattle.sp_order_laws.specs.Welcome.{is_welcome}
+
+-- ---- premises
+
+-- Spaces of ids of their own, and of one digest.
+pub record AreOfOneKind (settings : List Setting) : Type 0 where
+  pub ids : (i j : ℕ) (a b : Setting) → slice_get settings i ≡ Some a → slice_get settings j ≡ Some b → bytes_eq a.id b.id ≡ true → i ≡ j
+  pub digests : (i j : ℕ) (a b : Setting) → slice_get settings i ≡ Some a → slice_get settings j ≡ Some b → bytes_eq a.digest b.digest ≡ true
+
+-- whether an event is a failure: a Dial that is refused, a read or a write that fails
+abbrev pub is_failure : WorldEvent → Bool
+is_failure (Refuse a b) = true
+is_failure (ReadFails conn at) = true
+is_failure (WriteFails conn at unsent) = true
+is_failure _ = false
+
+abbrev pub NothingFails : List WorldEvent → Type 0
+NothingFails events = AllOf (λ (e : WorldEvent). is_failure e ≡ false) events
+
+-- ---- connections
+
+-- the spaces at the two ends of a connection, the one that dialled first
+abbrev pub ends_at : List Pipe → ℕ → Option (ℕ × ℕ)
+ends_at pipes conn = option_map (λ (p : Pipe). (p.dialler.space, p.accepter.space)) (slice_get pipes conn)
+
+-- A space opened a connection to the peer that it dialled, or one that a peer dialled.
+abbrev pub IsJoined : List Space → ℕ → Option Uuid → Option (ℕ × ℕ) → Type 0
+IsJoined spaces i dialled None = ⊥
+IsJoined spaces i None (Some ends) = ends.1 ≡ i
+IsJoined spaces i (Some peer) (Some ends) = (ends.0 ≡ i) × (id_in (slice_get spaces ends.1) ≡ Some peer)
+
+-- No end is over; each connection that a space opened joins it with the other space, and is open; and each frame that is first in its queue is welcome.
+pub record IsUnbroken (w : World) : Type 0 where
+  pub live : (conn : ℕ) (p : Pipe) (end : End) → slice_get w.pipes conn ≡ Some p → (side end p).phase ≡ Over → ⊥
+  pub joins : (i : ℕ) (s : Space) → slice_get w.spaces i ≡ Some s → (conn : ℕ) (dialled : Option Uuid) → IsOneOf (Opened conn dialled) s.history → IsJoined w.spaces i dialled (ends_at w.pipes conn)
+  pub stays : (i : ℕ) (s : Space) → slice_get w.spaces i ≡ Some s → (conn : ℕ) (dialled : Option Uuid) → IsOneOf (Opened conn dialled) s.history → is_open s.state conn ≡ true
+  pub welcome : (conn : ℕ) (p : Pipe) (to : End) (m : Message) (ms : List Message) (s : Space) (c : Connection) → slice_get w.pipes conn ≡ Some p → (side to p).queue ≡ m ∷ ms → slice_get w.spaces (side to p).space ≡ Some s → connection_at s.state conn ≡ Some c → is_welcome s.setting s.state c m ≡ true
+
+-- So in every run of every world of spaces of one kind in which nothing fails.
+abbrev pub NothingCloses : Type 0
+NothingCloses = (settings : List Setting) (events : List WorldEvent) → AreOfOneKind settings → NothingFails events → IsUnbroken (run (new_world settings) events)

@@ -1,0 +1,28 @@
+//! The laws of the Hellos with which connections begin.
+
+ghost use Rattle.sp_order_laws.specs.HandShakes.{HandShakesAreInTable};
+ghost use Rattle.sp_order_laws.specs.Hellos.{ConnectionsBeginInOrder, HellosAreSaidFirst};
+
+/// After every history of a space each Hello with which an event is answered goes out on the connection
+/// that the event opens, and any other frame on a connection on which a frame came.
+pub fn hellos_are_said_first()
+    ensures { HellosAreSaidFirst }
+{}
+
+/// In every run of every world, whatever is lost or fails, of each space and each connection: before it
+/// opens there nothing comes and nothing is sent. From then on the first frame that was sent there is the
+/// space's own Hello, and no other is one. While it is open and no Hello came, nothing else was sent and
+/// nothing came. Once a Hello came, that was the first frame that came, of the same digest and from the
+/// space that was dialled, if one was; and no other Hello came.
+pub fn connections_begin_in_order()
+    ensures { ConnectionsBeginInOrder }
+{}
+
+/// In every run of every world, whatever is lost or fails, of the frames under way along a connection toward
+/// an end, and those that were lost after them: there are none before the other end opens. While the
+/// connection is open here and no Hello came, the first is the other end's Hello, and no other is one; and
+/// it is the only frame while no Hello came there either. Once a Hello came here no other is under way, and
+/// nothing at all before one came there. Frames are lost only of an end that is over.
+pub fn hand_shakes_are_in_table()
+    ensures { HandShakesAreInTable }
+{}

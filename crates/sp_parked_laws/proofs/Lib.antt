@@ -1,3 +1,0 @@
-pub mod ApartLemmas
-pub mod WaitRules
-pub mod WaitLemmas

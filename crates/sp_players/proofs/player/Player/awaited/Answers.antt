@@ -1,6 +1,0 @@
-use Rattle.sp_players.proofs.PlayedLemmas.{waits-for}
-use Rattle.sp_players.proofs.ResultLemmas.{if-ok}
-use Rattle.sp_players.proofs.player.Player.awaited.Goals as goal
-
-pub returns : goal.returns
-returns c = if-ok c.op.result _ _ (λ op tells. waits-for c.args.self.now c.args.asked.now op c.requires tells) c.op.ensures

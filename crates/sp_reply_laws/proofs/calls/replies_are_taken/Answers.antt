@@ -1,8 +1,0 @@
-use Rattle.sp_reply_laws.proofs.TakenLemmas
-use Rattle.sp_reply_laws.proofs.calls.replies_are_taken.Goals as goal
-
-pub returns-clause-calls : goal.returns-clause-calls
-returns-clause-calls c = TakenLemmas.call_replies_are_taken
-
-pub returns-clause-store : goal.returns-clause-store
-returns-clause-store c = TakenLemmas.store_replies_are_taken

@@ -1,5 +1,0 @@
-use Rattle.sp_reply_laws.proofs.CrossingLemmas
-use Rattle.sp_reply_laws.proofs.replies.remote_methods_cross.Goals as goal
-
-pub returns : goal.returns
-returns c = CrossingLemmas.remote_methods_cross

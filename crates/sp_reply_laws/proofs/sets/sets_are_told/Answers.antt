@@ -1,5 +1,0 @@
-use Rattle.sp_reply_laws.proofs.SetLemmas
-use Rattle.sp_reply_laws.proofs.sets.sets_are_told.Goals as goal
-
-pub returns : goal.returns
-returns c = SetLemmas.sets_are_told

@@ -1,9 +1,0 @@
-//! Laws of the tasks that begin.
-
-ghost use Rattle.sp_reply_laws.specs.Starts.{TasksBegin};
-
-/// A task that begins with an event after a history that its space took, and the event with it, has a
-/// machine: its method starts with its values, in a linked and checked set, whatever the limits.
-pub fn tasks_begin()
-    ensures { TasksBegin }
-{}

@@ -1,0 +1,12 @@
+use Rattle.std.proofs.Common.{◌∙◌}
+use Rattle.sp_results.specs.Held.{valued}
+use Rattle.sp_results.proofs.NumberLemmas.{if-ok}
+use Rattle.sp_results.proofs.OverLemmas.{references-all}
+use Rattle.sp_results.proofs.call_results.CallResults.all_references.Goals as goal
+
+pub returns : goal.returns
+returns c =
+    if-ok c.references.result _ _
+    (λ references are. λ moment results a.
+    references-all moment results c.args.self.now _ references.items a (c.as_slice.ensures.value ∙ c.in_ok-tickets.ensures (valued a.rows) a.ticketed.values) (are (valued a.rows) a.ticketed.values))
+    c.references.ensures

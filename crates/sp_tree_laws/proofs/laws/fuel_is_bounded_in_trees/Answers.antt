@@ -1,5 +1,0 @@
-use Rattle.sp_tree_laws.proofs.TreeOfWorlds
-use Rattle.sp_tree_laws.proofs.laws.fuel_is_bounded_in_trees.Goals as goal
-
-pub returns : goal.returns
-returns c = TreeOfWorlds.fuel_is_bounded_in_trees

@@ -1,5 +1,0 @@
-mod ListLemmas
-mod QueueLemmas
-pub mod DeliveryLemmas
-mod CameLemmas
-mod EndLemmas

@@ -1,5 +1,0 @@
-use Rattle.sp_world_laws.proofs.EndLemmas
-use Rattle.sp_world_laws.proofs.laws.answers_came_from_callees.Goals as goal
-
-pub returns : goal.returns
-returns c = EndLemmas.answers_came_from_callees

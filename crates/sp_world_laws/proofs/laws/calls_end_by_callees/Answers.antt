@@ -1,5 +1,0 @@
-use Rattle.sp_world_laws.proofs.EndLemmas
-use Rattle.sp_world_laws.proofs.laws.calls_end_by_callees.Goals as goal
-
-pub returns : goal.returns
-returns c = EndLemmas.calls_end_by_callees

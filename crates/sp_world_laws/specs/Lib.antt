@@ -1,3 +1,0 @@
-pub mod Delivered
-pub mod InOrder
-pub mod Ends

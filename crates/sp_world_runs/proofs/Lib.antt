@@ -1,2 +1,0 @@
-mod RunPlays
-mod QuietPlays

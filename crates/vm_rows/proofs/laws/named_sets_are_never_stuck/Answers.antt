@@ -1,9 +1,0 @@
-use Rattle.vm_world.proofs.AsRead.{as_read}
-use Rattle.vm_rows.proofs.NeverStuck.{never_stuck, never_stuck_by_replies}
-use Rattle.vm_rows.proofs.laws.named_sets_are_never_stuck.Goals as goal
-
-pub returns : goal.returns
-returns c = record {
-  steps = λ links frames are typed. never_stuck links frames are typed (as_read links.classes are.set);
-  replies = λ links frames are typed. never_stuck_by_replies links frames are typed (as_read links.classes are.set);
-}

@@ -1,6 +1,0 @@
-use Rattle.vm_world.proofs.AsRead.{as_read}
-use Rattle.vm_rows.proofs.Callees.{static_runs}
-use Rattle.vm_rows.proofs.laws.static_methods_are_of_their_types.Goals as goal
-
-pub returns : goal.returns
-returns c = λ links frames are. static_runs links frames are (as_read links.classes are.set)

@@ -1,5 +1,0 @@
-use Rattle.vm_world.proofs.AsRead.{as_read}
-use Rattle.vm_world.proofs.laws.linked_sets_are_as_read.Goals as goal
-
-pub returns : goal.returns
-returns c = λ links are. as_read links.classes are.set
