@@ -60,7 +60,7 @@ impl<S: ScriptSpace + Drop> ScriptRun<S> {
             told: _,
             text,
         } = self;
-        with_outcomes(text, &world, &names, variables.rows())
+        with_outcomes(text, &world, &names, &variables)
     }
 
     // Lets an event happen, and notes which tasks it ended. Returns why it was refused, if it was.
@@ -209,11 +209,13 @@ fn with_outcomes<S: ScriptSpace + Drop>(
     text: Vec<u8>,
     world: &World<S>,
     names: &Names,
-    variables: &[Variable],
+    variables: &Variables,
 ) -> Result<Vec<u8>, PlayFault> {
     let mut text = text;
-    for variable in variables {
-        if let Some(space) = world.space(variable.key.space) {
+    for index in 0..variables.len() {
+        if let Some(variable) = variables.at(index)
+            && let Some(space) = world.space(variable.key.space)
+        {
             put_outcome(&mut text, space, names, &variable.name, &variable.outcome)?;
         }
     }

@@ -38,10 +38,8 @@ impl Variable {
 #[derive(Drop)]
 pub struct Variables {
     alloc: Global,
-    rows: Vec<Variable>,
-    // The indices of the rows, by name and by task.
-    names: IndexMap<String, usize>,
-    tasks: IndexMap<TaskKey, usize>,
+    rows: IndexMap<TaskKey, Variable>,
+    names: IndexMap<String, TaskKey>,
 }
 
 impl Variables {
@@ -49,31 +47,35 @@ impl Variables {
     pub fn new(alloc: Global) -> Variables {
         Variables {
             alloc,
-            rows: Vec::new(alloc),
+            rows: IndexMap::new(alloc),
             names: IndexMap::new(alloc),
-            tasks: IndexMap::new(alloc),
         }
     }
 
-    /// All of them.
-    pub fn rows(&self) -> &[Variable] {
-        &self.rows
+    /// How many there are.
+    pub fn len(&self) -> usize {
+        self.rows.len()
+    }
+
+    /// The variable at an index.
+    pub fn at(&self, index: usize) -> Option<&Variable> {
+        match self.rows.get_index(index) {
+            Some((_, variable)) => Some(variable),
+            None => None,
+        }
     }
 
     /// The variable of this name, which a line before has named.
     pub fn find(&self, name: &str) -> Option<&Variable> {
         match self.names.get(name) {
-            Some(index) => self.rows.get(*index),
+            Some(key) => self.rows.get(key),
             None => None,
         }
     }
 
     /// The variable of a task, if it has one.
     pub fn of_task(&self, key: &TaskKey) -> Option<&Variable> {
-        match self.tasks.get(key) {
-            Some(index) => self.rows.get(*index),
-            None => None,
-        }
+        self.rows.get(key)
     }
 
     /// The reference that the task of a variable returned. `PlayFault::Bad` if it returned none.
@@ -112,16 +114,23 @@ impl Variables {
 
     /// A root or look-up of this task has this variable, which no other has.
     pub fn add(&mut self, name: &str, key: TaskKey) -> Result<(), PlayFault> {
-        let index = self.rows.len();
-        self.names
-            .insert(String::from_str(self.alloc, name)?, index)?;
-        self.tasks.insert(key, index)?;
-        self.rows.push(Variable {
-            name: String::from_str(self.alloc, name)?,
+        self.names.insert(String::from_str(self.alloc, name)?, key)?;
+        self.rows.insert(
             key,
-            outcome: None,
-        })?;
+            Variable {
+                name: String::from_str(self.alloc, name)?,
+                key,
+                outcome: None,
+            },
+        )?;
         Ok(())
+    }
+
+    /// Forgets a variable, and how its task ended: its name is free. The last one comes to its place.
+    pub fn forget(&mut self, name: &str) {
+        if let Some(key) = self.names.swap_remove(name) {
+            let _ = self.rows.swap_remove(&key);
+        }
     }
 
     /// Notes how tasks of a space ended.
@@ -136,11 +145,8 @@ impl Variables {
     }
 
     fn end(&mut self, key: &TaskKey, outcome: &Outcome) -> Result<(), PlayFault> {
-        let Some(index) = self.tasks.get(key).copied() else {
-            return Ok(());
-        };
         let copy = copy_outcome(self.alloc, outcome)?;
-        if let Some(variable) = self.rows.get_mut(index) {
+        if let Some(variable) = self.rows.get_mut(key) {
             variable.outcome = Some(copy);
         }
         Ok(())

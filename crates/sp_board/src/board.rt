@@ -404,7 +404,7 @@ impl<S: Served + Drop> Board<S> {
     /// Lets the results of all variables go, and what no longer has a holder.
     pub fn let_go<R: Host>(&mut self, rt: &R) {
         for index in 0..usize::MAX {
-            let task = match self.variables.rows().get(index) {
+            let task = match self.variables.at(index) {
                 Some(variable) => variable.key.task,
                 None => break,
             };

@@ -29,6 +29,10 @@ const GREETING: u64 = 10;
 
 const SILENCE: u64 = 1_800;
 
+// How long what was taken at once may be on its way out on an accepted connection, in seconds, however much of it goes
+// out meanwhile.
+const WRITING: u64 = 120;
+
 /// An open connection: its socket, and what waits to go out on it.
 #[derive(Drop)]
 pub struct Link {
@@ -56,8 +60,9 @@ struct Out {
     waiting: Batch,
     given: u64,
     whole: u64,
-    // Whether a thread writes.
+    // Whether a thread writes, and for how many seconds it has written what it took.
     is_writing: bool,
+    written_for: u64,
     // Bytes that were taken to be written since the peer last showed that it reads.
     unread: usize,
     // Results without their Ack.
@@ -99,6 +104,15 @@ fn whole_in(ends: &[usize], written: usize) -> usize
 }
 
 impl Out {
+    // Whether the peer has been too slow.
+    fn is_slow(&self, is_accepted: bool) -> bool {
+        if !self.is_greeted {
+            return self.silent >= GREETING;
+        }
+        let is_stuck = self.is_writing && self.written_for >= WRITING;
+        is_accepted && (self.silent >= SILENCE || is_stuck)
+    }
+
     // The connection ends. Returns whether it was open until now.
     fn end(&mut self) -> bool
         ensures once { result ≡ not self.old.has_ended }
@@ -123,6 +137,7 @@ impl Link {
                 given: 0,
                 whole: 0,
                 is_writing: false,
+                written_for: 0,
                 unread: 0,
                 results: 0,
                 silent: 0,
@@ -205,6 +220,7 @@ impl Link {
     // Takes all that waits, to write it.
     fn take_batch(&self, out: &mut Out) -> Batch {
         out.is_writing = true;
+        out.written_for = 0;
         out.unread = out.unread.saturating_add(out.waiting.bytes.len());
         let none = Batch::new(self.alloc);
         let batch = mem::replace(&mut out.waiting, none);
@@ -234,17 +250,17 @@ impl Link {
         went_out
     }
 
-    /// Notes that a second has passed. Returns whether the peer has been silent for too long: for 10 s before its
-    /// first frame, or for 1,800 s after it on a connection that the peer made.
+    /// Notes that a second has passed. Returns whether the peer has been too slow: silent for 10 s before its first
+    /// frame; or on a connection that it made, silent for 1,800 s after that, or for 120 s at what was written to it at
+    /// once.
     pub fn pass_second<R: Host>(&self, rt: &R) -> bool {
         let mut guard = self.out.lock(rt);
-        let silent = guard.silent.saturating_add(1);
-        guard.silent = silent;
-        if guard.is_greeted {
-            self.is_accepted && silent >= SILENCE
-        } else {
-            silent >= GREETING
+        let out = &mut *guard;
+        out.silent = out.silent.saturating_add(1);
+        if out.is_writing {
+            out.written_for = out.written_for.saturating_add(1);
         }
+        out.is_slow(self.is_accepted)
     }
 
     /// Waits, on a connection that the peer made, while more than 1 MiB waits to go out: who does not take answers

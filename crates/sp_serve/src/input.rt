@@ -136,6 +136,8 @@ fn obey_command<R: Host, S: Served + Drop>(
     }
 }
 
+// Lets the result of a variable go, and the variable with it: so what a space keeps does not grow with the lines that it
+// obeyed. One whose task goes on stays.
 fn acknowledge<R: Host, S: Served + Drop>(
     rt: &R,
     board: &mut Board<S>,
@@ -145,7 +147,14 @@ fn acknowledge<R: Host, S: Served + Drop>(
         return Err(PlayFault::Bad);
     };
     let task = known.key.task;
-    happen(rt, board, &Event::RootAck(task))
+    match board.on(rt, &Event::RootAck(task)) {
+        Ok(()) => {
+            board.variables.forget(variable);
+            Ok(())
+        }
+        Err(CoreFault::Memory) => Err(PlayFault::Memory),
+        Err(_) => Ok(()),
+    }
 }
 
 fn bind<R: Host, S: Served + Drop>(
