@@ -32,3 +32,4 @@ pub mod AskedLemmas
 pub mod SecureLaws
 mod RunPlays
 mod QuietPlays
+pub mod StandingLaws

@@ -15,3 +15,4 @@ pub mod Secure
 pub mod Whole
 pub mod Runs
 pub mod Quiet
+pub mod Standing

@@ -3,6 +3,7 @@
 ghost use Rattle.sp_held_laws.specs.Entries.{GrantedReferencesHaveEntries, LeasesComeOfEntries};
 ghost use Rattle.sp_held_laws.specs.Lost.{CallsFindTheirObjects, NothingHeldIsLost, WhatIsNamedStands};
 ghost use Rattle.sp_held_laws.specs.Passes.{PassesUnlost};
+ghost use Rattle.sp_held_laws.specs.Standing.{OwnReferencesStandInWorlds};
 
 use crate::kept::{
     dirty_calls_are_awaited, dirty_calls_set_entries, entries_stay_until_cleaned,
@@ -20,6 +21,7 @@ use sp_order_laws::laws::{
     each_result_is_acknowledged_once, frames_are_answered_once, sequence_numbers_rise,
 };
 use sp_order_laws::worlds::{parked_results_came, what_comes_was_sent};
+use sp_rules::laws::{histories_are_taken, own_references_stand, states_are_histories};
 
 /// In every run of every world of spaces that have ids of their own and one digest, in which no Dial is
 /// refused, no read or write fails and no entry for an object expires: of each reference to the object that
@@ -197,4 +199,15 @@ pub fn a_held_reference_is_passed_on()
     ensures { PassesUnlost }
 {
     a_reference_passes_where_nothing_fails();
+}
+
+/// In every run of every world, whatever is lost or fails, the own references of each space name standing
+/// objects of their class: those that tasks hold, those in the fields of standing objects, in held results
+/// and in parked frames. So do the targets of parked calls.
+pub fn own_references_stand_in_worlds()
+    ensures { OwnReferencesStandInWorlds }
+{
+    histories_are_taken();
+    states_are_histories();
+    own_references_stand();
 }

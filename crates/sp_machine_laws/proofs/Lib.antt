@@ -1,0 +1,2 @@
+mod BeginLemmas
+mod MachineLemmas

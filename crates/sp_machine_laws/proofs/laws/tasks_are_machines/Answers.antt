@@ -1,0 +1,5 @@
+use Rattle.sp_machine_laws.proofs.MachineLemmas
+use Rattle.sp_machine_laws.proofs.laws.tasks_are_machines.Goals as goal
+
+pub returns : goal.returns
+returns c = MachineLemmas.tasks_are_machines
