@@ -43,7 +43,7 @@ def laws_of(crate):
 
 
 def layers():
-    """Returns the crates under each heading of crates.txt, each with the libraries on its line."""
+    """Returns the crates under each heading of crates.txt, each with the libraries on its line. A comment that ends with a full stop is no heading."""
     found, heading = {}, None
     for line in (ROOT / "crates.txt").read_text().splitlines():
         if line.startswith("# ") and not line.endswith("."):
