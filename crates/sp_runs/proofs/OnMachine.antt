@@ -257,7 +257,7 @@ asks-store links g start h id t op set same taken lives own c asks =
   where
     by : AsksAt links (played links c.moves start) op → OnStore links g start h t.task op
     by at =
-        let follows = asks-follow links g t.task s c.follows at.asked at.machine at.fuel at.waits in
+        let follows = asks-follow links g t.task (played links c.moves start) c.follows at.asked at.machine at.fuel at.waits in
         let store = store-asked links g t.task at.asked at.machine at.fuel own follows in
         let is : op ≡ op_of [] at.asked = sym at.is ∙ store-is links.classes at.asked at.machine store in
         let reply = store_replies_are_taken links g h id t at.asked at.machine at.fuel (setting-is links g set same) taken lives follows store in

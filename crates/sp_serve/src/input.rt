@@ -136,8 +136,8 @@ fn obey_command<R: Host, S: Served + Drop>(
     }
 }
 
-// Lets the result of a variable go, and the variable with it: so what a space keeps does not grow with the lines that it
-// obeyed. One whose task goes on stays.
+// Lets the result of a variable go, if there is one, and the variable with it: so what a space keeps does not grow with
+// the lines that it obeyed. One whose task goes on stays.
 fn acknowledge<R: Host, S: Served + Drop>(
     rt: &R,
     board: &mut Board<S>,
@@ -147,14 +147,12 @@ fn acknowledge<R: Host, S: Served + Drop>(
         return Err(PlayFault::Bad);
     };
     let task = known.key.task;
-    match board.on(rt, &Event::RootAck(task)) {
-        Ok(()) => {
-            board.variables.forget(variable);
-            Ok(())
-        }
-        Err(CoreFault::Memory) => Err(PlayFault::Memory),
-        Err(_) => Ok(()),
+    let has_ended = known.outcome.is_some();
+    happen(rt, board, &Event::RootAck(task))?;
+    if has_ended {
+        board.variables.forget(variable);
     }
+    Ok(())
 }
 
 fn bind<R: Host, S: Served + Drop>(
