@@ -264,7 +264,7 @@ fn tell<R: Host, S: Served + Drop, G: Gate>(
 // waits for, or which it started. So no other thread has to wake for it, and what it sends goes out in one write with
 // what the frame is answered by. One that computes for longer is left to the workers.
 fn receive<R: Host, S: Served + Drop, G: Gate>(rt: &R, hall: &Hall<S, G>, event: &Event) {
-    let mut guard = hall.board.lock(rt);
+    let mut guard = hall.lock(rt);
     let board = &mut *guard;
     let _ = board.on(rt, event);
     let computing = match board.ready.pop_front() {

@@ -7,7 +7,11 @@ use sp_world::{CoreFault, Event};
 use space_ids::Uuid;
 use std::alloc::Global;
 use std::net::{SocketAddr, TcpListener};
-use std::sync::{Condvar, Mutex};
+use std::sync::{Condvar, Mutex, MutexGuard};
+use std::thread::yield_now;
+
+// How often a thread looks whether the space's lock is free, and lets others run, before it sleeps until it is.
+const LOOKS: u32 = 64;
 
 /// Where a peer listens.
 #[derive(Clone, Copy)]
@@ -68,9 +72,21 @@ impl<S: Served + Drop, G: Gate> Hall<S, G> {
         }
     }
 
+    /// The space, once no other thread has it. An event takes some microseconds, and a thread that slept would be woken
+    /// with the lock in its hands, which nobody else can take until it runs: so it looks for a while first.
+    pub fn lock<R: Host>(&self, rt: &R) -> MutexGuard<'_, Board<S>> {
+        for _ in 0..LOOKS {
+            if let Some(guard) = self.board.try_lock() {
+                return guard;
+            }
+            yield_now();
+        }
+        self.board.lock(rt)
+    }
+
     /// Lets an event happen, and sees to what it answers.
     pub fn on<R: Host>(&self, rt: &R, event: &Event) -> Result<(), CoreFault> {
-        let mut guard = self.board.lock(rt);
+        let mut guard = self.lock(rt);
         let board = &mut *guard;
         let answered = board.on(rt, event);
         let due = board.take_due();

@@ -64,7 +64,7 @@ fn advance<R: Host, S: Served + Drop, G: Gate>(
     hall: &Hall<S, G>,
     task: u64,
 ) -> Advance<S::Apart> {
-    let mut guard = hall.board.lock(rt);
+    let mut guard = hall.lock(rt);
     let board = &mut *guard;
     let advanced = board.advance(rt, task);
     let due = board.take_due();
@@ -80,7 +80,7 @@ pub(crate) fn compute<R: Host, S: Served + Drop, G: Gate>(
     mut apart: S::Apart,
 ) {
     let _ = S::compute(&mut apart, MOST_APART);
-    hall.board.lock(rt).space.give_back(apart);
+    hall.lock(rt).space.give_back(apart);
 }
 
 // Has a task that may go on wait for its turn, after all others.
