@@ -150,21 +150,11 @@ impl Clients {
         ensures same { (h : List Told) → IsAfter h self.old → IsAfter h self.new }
         ensures room { room self.new ≡ room self.old }
     {
-        let candidates = self.candidates(alloc)?;
-        let mut due = DueCalls::new(alloc);
-        due.reserve(candidates.len().min(self.leases.len()))?;
-        let mut again = Touched::new(alloc);
-        due_now(
-            &self.leases,
-            candidates.as_slice(),
-            &mut due.found,
-            &mut again,
-        );
-        due.put_in_order();
-        let groups = grouped(alloc, due.as_slice())?;
-        self.touched = again;
-        self.moved = false;
-        Ok(groups)
+        let rests = self.rests();
+        if rests {
+            return Ok(Vec::new(alloc));
+        }
+        self.due_of_touched(alloc)
     }
 
     /// Returns how many references were ever held. At most that many calls can be due.
@@ -331,6 +321,47 @@ impl Clients {
             Err(_) => all_due(&self.leases, &mut due.found, &mut again),
         }
         again
+    }
+
+    // Whether nothing happened to a reference since the last question for calls, and no moment came: no call is due.
+    fn rests(&self) -> bool
+        ensures none { result ≡ true → IsSound self.now → filter_map call_of_entry (leases_of self.now.leases) ≡ [] }
+        ensures unique { IsDistinct is_same (keys_of (leases_of self.now.leases)) }
+    {
+        // No reference comes twice, as `len` tells a proof.
+        let _ = self.leases.len();
+        let moved = self.moved;
+        if moved {
+            return false;
+        }
+        let all = self.touched.all;
+        if all {
+            return false;
+        }
+        self.touched.indexes.is_empty()
+    }
+
+    // The groups of due calls, of the references that may have one.
+    fn due_of_touched(&mut self, alloc: Global) -> Result<Vec<Group>, AllocError>
+        ensures groups { IfOk result (λ groups. (h : List Told) → IsAfter h self.old → groups.items ≡ grouped (in_order (due_of h))) }
+        ensures same { (h : List Told) → IsAfter h self.old → IsAfter h self.new }
+        ensures room { room self.new ≡ room self.old }
+    {
+        let candidates = self.candidates(alloc)?;
+        let mut due = DueCalls::new(alloc);
+        due.reserve(candidates.len().min(self.leases.len()))?;
+        let mut again = Touched::new(alloc);
+        due_now(
+            &self.leases,
+            candidates.as_slice(),
+            &mut due.found,
+            &mut again,
+        );
+        due.put_in_order();
+        let groups = grouped(alloc, due.as_slice())?;
+        self.touched = again;
+        self.moved = false;
+        Ok(groups)
     }
 
     // The indexes of the references that may have a call due, rising.

@@ -1,20 +1,10 @@
-use Rattle.std.proofs.Common.{ℕ, inl, List, Contains, sym, ap, subst, ◌∙◌, refl}
+use Rattle.std.proofs.Common.{List, [], refl, sym, ap, ◌∙◌}
 use Rattle.dgc_client.specs.Groups.{grouped, in_order}
-use Rattle.dgc_client.specs.Table.{leases_of}
-use Rattle.dgc_client.specs.Touched.{HasAll}
-use Rattle.dgc_client.proofs.TableLemmas.{due-calls, after-touched}
+use Rattle.dgc_client.specs.declared.groups.DueCall.{DueCall}
+use Rattle.dgc_client.proofs.TableLemmas.{due-calls}
 use Rattle.dgc_client.proofs.table.Clients.due.Goals as goal
 
-pub returns-clause-groups : goal.returns-clause-groups
-returns-clause-groups c = λ h was.
-    let leases = leases_of c.args.self.now.leases in
-    let all : HasAll leases c.as_slice.result.now = λ at due. subst (λ (xs : List ℕ). Contains xs at) (sym c.as_slice.ensures.value) (c.in_ok-candidates.ensures.there was.sound at due) in
-    c.in_ok-groups.ensures ∙ ap grouped (c.as_slice-2.ensures ∙ c.put_in_order.ensures.calls
-    ∙ ap in_order (due-calls h c.args.self.now c.due_now.new.calls.items c.in_ok-candidates.ensures.unique (c.due_now.ensures.calls all) was))
-
-pub returns-clause-same : goal.returns-clause-same
-returns-clause-same c = λ h was.
-    let leases = leases_of c.args.self.now.leases in
-    let all : HasAll leases c.as_slice.result.now = λ at due. subst (λ (xs : List ℕ). Contains xs at) (sym c.as_slice.ensures.value) (c.in_ok-candidates.ensures.there was.sound at due) in
-    after-touched h c.args.self.now _ refl refl refl
-    (record { covered = λ at due. inl (c.due_now.ensures.again all at due); planned = was.sound.planned; waiting = was.sound.waiting }) was
+pub returns-then-rests-clause-groups : goal.returns-then-rests-clause-groups
+returns-then-rests-clause-groups c = λ h was.
+    c.new.ensures.items ∙ ap (λ (calls : List DueCall). grouped (in_order calls))
+    (due-calls h c.args.self.now [] c.rests-rests.ensures.unique (sym (c.rests-rests.ensures.none c.if-rests.true was.sound)) was)
