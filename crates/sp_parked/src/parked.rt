@@ -1,9 +1,10 @@
 //! Frames that wait for leases.
 
-ghost use Rattle.std.specs.Prelude.{◌≡◌, ℕ, ◌+◌, ◌++◌, List, [], ◌∷◌, IfOk, OnOk, nat_eq, option_copied};
+ghost use Rattle.std.specs.Prelude.{◌≡◌, ℕ, ◌+◌, ◌++◌, List, [], ◌∷◌, IfOk, OnOk, is_none, nat_eq, option_copied};
 ghost use Rattle.std.specs.List.{IsDistinct};
 ghost use Rattle.std.specs.Map.{keys_of, lookup, remove_entry};
 ghost use Rattle.dgc_client.specs.Table.{is_same};
+ghost use Rattle.rising_map.specs.Rows.{first_row};
 ghost use Rattle.sp_parked.specs.declared.frame.ParkedFrame.{ParkedFrame as Waiting};
 
 use crate::ParkedFrame;
@@ -57,6 +58,13 @@ impl Parked {
             by_connection: self.by_connection.copy()?,
             last: self.last,
         })
+    }
+
+    /// Whether no frame waits.
+    pub fn is_empty(&self) -> bool
+        ensures { (frames : List (ℕ × Waiting)) → AreParked frames self.now → result ≡ is_none (first_row frames) }
+    {
+        self.frames.is_empty()
     }
 
     /// The frame of a ticket, if it waits.
