@@ -14,6 +14,9 @@ use std::alloc::{AllocError, Global};
 use std::marker::Model;
 use table_copies::copy_values;
 
+// For how many replies a record has room as its task starts: most tasks are given few.
+const FIRST_REPLIES: usize = 2;
+
 /// The record of a living task: how it began, and each reply that it was given, with the number
 /// of its own instructions before it.
 #[derive(Debug, Drop)]
@@ -56,7 +59,7 @@ impl Record {
             method,
             arguments: Row::new(copy_values(alloc, arguments)?),
             fuel,
-            given: Vec::with_capacity(alloc, 1)?,
+            given: Vec::with_capacity(alloc, FIRST_REPLIES)?,
         })
     }
 
