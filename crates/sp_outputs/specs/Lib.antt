@@ -1,3 +1,4 @@
 pub mod Frames
 pub mod Notes
+pub mod Ranks
 pub mod Said

@@ -7,7 +7,7 @@ ghost use Rattle.sp_rules.specs.Events.{Says, Sends, in_order};
 ghost use Rattle.sp_outputs.specs.Frames.{frames_in, noted_in, turns};
 ghost use Rattle.sp_outputs.specs.Said.{is_noted};
 
-use crate::note::{Note, tell_rank};
+use crate::note::{Note, ranks_of, tell_there};
 use crate::output::RANKS;
 use crate::{Output, Turn};
 use net_message::Message;
@@ -87,18 +87,26 @@ impl Outputs {
     /// Takes all that is noted, as outputs in their order: Started, Ended, Withdrawn, Denied, Send, Dial,
     /// Close, Ready; and of frames Hello, replies, requests that waited, Clean, Dirty, Call and Lookup, Ack.
     /// Outputs of one kind and frames of one turn stand as they were noted. It takes no memory, and leaves
-    /// no note and no room.
+    /// no note, and no room if there was one.
     pub fn take_in_order(&mut self) -> Vec<Output>
         ensures ordered { map output_of result.items ≡ in_order (notes_of self.old) }
         ensures frames { frames_in (map output_of result.items) ≡ flat_map (noted_in (notes_of self.old)) turns }
         ensures whole { length result.items ≡ length (notes_of self.old) }
         ensures notes { notes_of self.new ≡ [] }
     {
+        if self.notes.is_empty() {
+            return Vec::new(self.alloc);
+        }
+        let ranks = ranks_of(&self.notes);
         let mut notes = mem::replace(&mut self.notes, Vec::new(self.alloc));
         let mut told = mem::replace(&mut self.told, Vec::new(self.alloc));
         for rank in 0..RANKS {
-            tell_rank(&mut notes, rank, &mut told);
+            let is_there = ranks[rank as usize];
+            tell_there(&mut notes, is_there, rank, &mut told);
         }
+        // Their memory serves the notes of the next event.
+        notes.clear();
+        self.notes = notes;
         told
     }
 }
