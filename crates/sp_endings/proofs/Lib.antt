@@ -2,6 +2,7 @@ pub mod ApartLemmas
 pub mod EachLemmas
 pub mod StoreLemmas
 pub mod TakingLemmas
+pub mod AloneLemmas
 pub mod PassLemmas
 pub mod FailLemmas
 pub mod EndLemmas

@@ -1,6 +1,6 @@
 //! Frames that wait for leases, as they come and as they go.
 
-ghost use Rattle.std.specs.Prelude.{◌≡◌, OnOk, map};
+ghost use Rattle.std.specs.Prelude.{◌≡◌, [], true, OnOk, map};
 ghost use Rattle.std.specs.List.{IsDistinct};
 ghost use Rattle.dgc_client.specs.Table.{is_same};
 ghost use Rattle.sp_endings.specs.Passing.{pass_on};
@@ -23,6 +23,38 @@ use std::alloc::AllocError;
 /// Parks a frame that came until each foreign reference in it has a lease, and lets all frames go that
 /// wait for nothing. It names each reference once.
 pub fn park<C: CallClasses>(
+    living: &mut Living,
+    store: &Store,
+    classes: &C,
+    frame: ParkedFrame,
+) -> Result<(), AllocError>
+    requires { IsDistinct is_same frame.references }
+    ensures parked { OnOk result ((g : Setting) (s : State) → IsLiving g s living.old → C.tells classes.now g.classes → IsAfter g s.store store.now → IsLiving g (park_frame g frame.conn frame.number (parked_of frame).frame frame.references s) living.new) }
+    ensures lent { OnOk result (KeepsLent living.old.tasks living.new.tasks) }
+{
+    let alone = goes_alone(living, &frame);
+    if alone {
+        pass_on(living, store, classes, frame)
+    } else {
+        wait(living, store, classes, frame)
+    }
+}
+
+// Whether a frame that comes has no foreign reference and no frame waits: then it is the one that goes, and at once.
+fn goes_alone(living: &Living, frame: &ParkedFrame) -> bool
+    ensures { result ≡ true → (g : Setting) (s : State) → IsLiving g s living.now → (frame.now.references ≡ []) × (s.parked ≡ []) }
+{
+    let named = frame.references.as_slice();
+    let bare = named.is_empty();
+    if bare {
+        living.parked().is_empty()
+    } else {
+        false
+    }
+}
+
+// Parks a frame, and lets all frames go that wait for nothing.
+fn wait<C: CallClasses>(
     living: &mut Living,
     store: &Store,
     classes: &C,

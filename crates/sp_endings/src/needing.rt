@@ -34,6 +34,9 @@ pub fn is_busy(alloc: Global, living: &Living) -> Result<bool, AllocError>
 fn count_calls(alloc: Global, parked: &Parked) -> Result<usize, AllocError>
     ensures { IfOk result (λ count. (frames : List (ℕ × Waiting)) → AreParked frames parked.now → count ≡ length (filter (λ row. is_call_frame (parked_of row.1).frame) frames)) }
 {
+    if parked.is_empty() {
+        return Ok(0);
+    }
     let tickets = parked.tickets(alloc)?;
     let mut count = 0;
     for ticket in &tickets {
