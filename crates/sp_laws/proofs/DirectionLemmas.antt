@@ -116,8 +116,8 @@ can-may g e h Is conn (message.Hello version space digest) a = says-hello a.0 a.
     says-hello : (dialled : Option Uuid) → e ≡ Opened conn dialled → HasOpened (e ∷ h) conn true ⊎ HasOpened (e ∷ h) conn false
     says-hello None is = inr (subst (λ d. HasOpened (d ∷ h) conn false) (sym is) (opens-now h conn None))
     says-hello (Some peer) is = inl (subst (λ d. HasOpened (d ∷ h) conn true) (sym is) (opens-now h conn (Some peer)))
-can-may g e h Is conn (message.Call number object method fuel arguments) a = a
-can-may g e h Is conn (message.Lookup number name) a = a
+can-may g e h Is conn (message.Call number object method fuel arguments) a = absurd a
+can-may g e h Is conn (message.Lookup number name) a = absurd a
 can-may g e h Is conn (message.Ack number) a = a
 can-may g e h Is conn (message.Dirty sequence period objects) a = a
 can-may g e h Is conn (message.Clean sequence strong objects) a = a
@@ -178,7 +178,7 @@ until-owed h (RootAcked task) l a = a
 until-owed h (Acked conn number) l a = a.1
 until-owed h (Passed moment) l a = a
 
-pub directed_flow : (g : Setting) (e : Event) (h : List Event) (Is : ℕ → Message → Type 0) → ((conn number : ℕ) (class : ClassId) → IsRefusal g class → Is conn (message.Threw number class))
+pub directed_flow : (g : Setting) (e : Event) (h : List Event) (Is : ℕ → Message → Type 0) → ((conn number : ℕ) (class : ClassId) → IsRefusal g e conn number class → Is conn (message.Threw number class))
     → ((conn number : ℕ) (name : List ℕ) (r : Ref) → e ≡ Received conn (message.Lookup number name) → r.space ≡ g.id → Is conn (message.Returned number 0 (Some (values.Ref r)))) → Flows (view g e h Is)
 directed_flow g e h Is refuses finds = record {
   known = λ l s k. k.frames;

@@ -50,7 +50,7 @@ pub record Flows (V : View) : Type 0 where
   pub starts : (l : List Owed) (s : State) (p : ParkedFrame) (target : ObjId) (method fuel : ℕ) (arguments : List Value) (o : Object) (selected : ℕ) → is_ending V.event ≡ true → V.Keeps l s → V.Known p → p.frame ≡ CallFrame target method fuel arguments → object_at s target ≡ Some o → V.setting.classes.selected o.class method ≡ Some selected
       → V.Starts (OfCall p.conn p.number) selected (values.Ref (record { space = V.setting.id; id = target; class = o.class }) ∷ arguments)
   pub gives : (p : ParkedFrame) (value : Option Value) (fuel : ℕ) (asked : Asked) → is_ending V.event ≡ true → V.Known p → p.frame ≡ ReturnedFrame value fuel → ParkedFrames.has_number p.number asked ≡ true → V.Ends asked (GivesBack value fuel)
-  pub refuses : (conn number : ℕ) (class : ClassId) → IsRefusal V.setting class → V.Answers conn (message.Threw number class)
+  pub refuses : (conn number : ℕ) (class : ClassId) → IsRefusal V.setting V.event conn number class → V.Answers conn (message.Threw number class)
   pub finds : (conn number : ℕ) (name : List ℕ) (r : Ref) → V.event ≡ Received conn (message.Lookup number name) → r.space ≡ V.setting.id → V.Answers conn (message.Returned number 0 (Some (values.Ref r)))
   -- outputs
   pub quiet : (l : List Owed) (s t : State) → event_parts t ≡ event_parts s → V.Keeps l s → V.Keeps l t

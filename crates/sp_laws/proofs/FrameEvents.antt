@@ -37,8 +37,8 @@ use Rattle.sp_rules.specs.State.{State, Object, Living, Origin, OfRoot, OfCall, 
 use Rattle.sp_rules.proofs.AllLemmas.{found-is, all-found}
 use Rattle.sp_rules.proofs.OwnLemmas.{some-same, and-left}
 use Rattle.sp_laws.proofs.FlowRules.{Owed, Removed, Inbound}
-use Rattle.sp_laws.proofs.FrameFlows.{HasComeOn, View, IsReleased, is_finish, is_ending, is_storing, is_unreached, is_unwritten, Flows, IsWhoWasDialled, Begins, if_flow, some_flow, each_flow, send_flow, drop_flow}
-use Rattle.sp_laws.proofs.FrameSteps.{flush_flow, settle_flow, add_task_flow, keep_flow, keep-held, reply_to_flow, commit_flow, give_back_flow, park_flow, finish_flow, both-right, go_all_flow, park_call_flow, park_result_flow, end_requests_flow, end_connection_flow, close_flow}
+use Rattle.sp_laws.proofs.FrameFlows.{HasComeOn, View, IsReleased, is_finish, is_ending, is_storing, is_unreached, is_unwritten, ending-apart, Flows, IsWhoWasDialled, Begins, if_flow, some_flow, each_flow, send_flow, drop_flow}
+use Rattle.sp_laws.proofs.FrameSteps.{flush_flow, settle_flow, add_task_flow, keep_flow, keep-held, reply_to_flow, commit_flow, give_back_flow, park_flow, finish_flow, both-right, go_all_flow, park_call_flow, park_result_flow, end_requests_flow, end_connection_flow, close_flow, refused}
 
 -- ---- frames that come
 
@@ -79,20 +79,20 @@ call_of_flow {V} F {l} {s} conn number target o method fuel arguments going come
     by (V.setting.classes.may_call o.class method) refl (fit_kinds (V.setting.classes.parameters method) arguments) refl (list_any (Holders.is_refused V.setting s) (references_of arguments)) refl
   where
     threw : V.Keeps l (ParkedFrames.answer_threw conn number V.setting.classes.unmarshal s)
-    threw = send_flow F _ conn _ (there, F.refuses conn number _ (inr (inl refl))) tt (F.falls l s conn number h)
+    threw = send_flow F _ conn _ (there, refused F going conn number _ (inr (inl refl))) tt (F.falls l s conn number h)
 
     by : (a : Bool) → V.setting.classes.may_call o.class method ≡ a → (b : Bool) → fit_kinds (V.setting.classes.parameters method) arguments ≡ b → (c : Bool) → list_any (Holders.is_refused V.setting s) (references_of arguments) ≡ c
         → V.Keeps l (if not a || (not b || c) then ParkedFrames.answer_threw conn number V.setting.classes.unmarshal s
         else (if Frames.is_busy s then ParkedFrames.answer_threw conn number V.setting.classes.server_error s
         else ParkedFrames.park_frame V.setting conn number (CallFrame o.id method fuel arguments) (fold client.with_reference [] (foreign_ids V.setting.id (references_of arguments))) s))
-    by true a true b false c = if_flow F (Frames.is_busy s) (send_flow F _ conn _ (there, F.refuses conn number _ (inr (inr (inl refl)))) tt (F.falls l s conn number h))
+    by true a true b false c = if_flow F (Frames.is_busy s) (send_flow F _ conn _ (there, refused F going conn number _ (inr (inr refl))) tt (F.falls l s conn number h))
         (park_call_flow F conn number o.id method fuel arguments _ going (comes _ o method fuel arguments refl there is a b c) h)
     by true a true b true c = threw
     by true a false b c d = threw
     by false a b c d e = threw
 
 pub found_flow : {V : View} (F : Flows V) {l : List Owed} {s : State} (conn number : ℕ) (name : List ℕ) (o : Option Object) → V.event ≡ Received conn (message.Lookup number name) → V.Dialled conn false → V.Keeps (Inbound conn number ∷ l) s → V.Keeps l (Frames.found V.setting conn number o s)
-found_flow F {l} {s} conn number name None same there h = send_flow F _ conn _ (there, F.refuses conn number _ (inr (inr (inr refl)))) tt (F.falls l s conn number h)
+found_flow {V} F {l} {s} conn number name None same there h = send_flow F _ conn _ (there, F.refuses conn number _ (record { apart = ending-apart V.event (ap is_ending same); why = inr (record { name = name; came = same; class_is = refl }) })) tt (F.falls l s conn number h)
 found_flow {V} F {l} {s} conn number name (Some o) same there h = send_flow F _ conn _ (there, F.finds conn number name (record { space = V.setting.id; id = o.id; class = o.class }) same refl)
     (keep-held V.setting conn number (Some (values.Ref (record { space = V.setting.id; id = o.id; class = o.class }))) s) (keep_flow F (state.Acked conn number) (Some (values.Ref (record { space = V.setting.id; id = o.id; class = o.class }))) h)
 
@@ -101,7 +101,7 @@ unfolding Frames.got_call
 got_call_flow {V} F {l} {s} c number target method fuel arguments came going comes may there is h = pick (nat_le number c.last) refl
   where
     on : nat_le number c.last ≡ false → (o : Option Object) → object_at s target ≡ o → V.Keeps l (Frames.call_on V.setting c.number number o method fuel arguments (Frames.counted c.number number s))
-    on e None stands = send_flow F Replies c.number (message.Threw number V.setting.classes.no_such_object) (there, F.refuses c.number number _ (inl refl)) tt (F.falls l _ c.number number (F.counts l s c.number number c there is e h))
+    on e None stands = send_flow F Replies c.number (message.Threw number V.setting.classes.no_such_object) (there, refused F going c.number number _ (inl refl)) tt (F.falls l _ c.number number (F.counts l s c.number number c there is e h))
     on e (Some o) stands = call_of_flow F c.number number target o method fuel arguments going comes there stands (F.counts l s c.number number c there is e h)
 
     pick : (b : Bool) → nat_le number c.last ≡ b → V.Keeps l (if b then Endings.close V.setting V.setting.classes.unmarshal c.number s else Frames.call_on V.setting c.number number (object_at s target) method fuel arguments (Frames.counted c.number number s))
@@ -281,9 +281,9 @@ unfolding OwnEvents.on_opened
 opened_flow {V} F conn None same B h = send_flow F _ conn (message.Hello 1 V.setting.id V.setting.digest) (None, same) tt (B.opens conn None same h)
 opened_flow {V} F conn (Some peer) same B h = send_flow F _ conn (message.Hello 1 V.setting.id V.setting.digest) (Some peer, same) tt (F.quiet [] _ _ refl (B.opens conn (Some peer) same h))
 
-pub refused_flow : {V : View} (F : Flows V) {l : List Owed} {s : State} (peer : Uuid) → V.Fails V.setting.classes.unmarshal → V.Fails V.setting.classes.connect → V.Keeps l s → V.Keeps l (OwnEvents.on_refused V.setting peer s)
+pub refused_flow : {V : View} (F : Flows V) {l : List Owed} {s : State} (peer : Uuid) → is_ending V.event ≡ true → V.Fails V.setting.classes.unmarshal → V.Fails V.setting.classes.connect → V.Keeps l s → V.Keeps l (OwnEvents.on_refused V.setting peer s)
 unfolding OwnEvents.on_refused
-refused_flow F {l} {s} peer may why h = end_requests_flow F (Requests.waits_for peer) _ may (λ asked. why) (F.quiet l s _ refl h)
+refused_flow F {l} {s} peer going may why h = end_requests_flow F (Requests.waits_for peer) _ going may (λ asked. why) (F.quiet l s _ refl h)
 
 -- ---- events
 
@@ -317,12 +317,12 @@ happen_flow {V} F {s} B h = by V.event refl
     by (Unbind name) same = names_flow F _ h
     by (Lookup peer name) same = lookup_flow F peer name same B h
     by (Opened conn dialled) same = opened_flow F conn dialled same B h
-    by (Refused peer) same = refused_flow F peer (ends (Refused peer) same refl) (B.connect (ap is_unreached same)) h
+    by (Refused peer) same = refused_flow F peer (ap is_ending same) (ends (Refused peer) same refl) (B.connect (ap is_unreached same)) h
     by (Received conn m) same = received_flow F conn (connection_at s conn) m same B refl h
-    by (Closed conn) same = end_connection_flow F _ conn (ends (Closed conn) same refl) (λ asked. ends (Closed conn) same refl) h
-    by (ReadFailed conn) same = end_connection_flow F _ conn (ends (ReadFailed conn) same refl) (λ asked. ends (ReadFailed conn) same refl) h
-    by (Bad conn) same = end_connection_flow F _ conn (ends (Bad conn) same refl) (λ asked. ends (Bad conn) same refl) h
-    by (WriteFailed conn lost) same = end_connection_flow F _ conn (ends (WriteFailed conn lost) same refl) (unsent (ends (WriteFailed conn lost) same refl) (B.marshal (ap is_unwritten same)) (Endings.unsent_calls s conn lost)) h
+    by (Closed conn) same = end_connection_flow F _ conn (ap is_ending same) (ends (Closed conn) same refl) (λ asked. ends (Closed conn) same refl) h
+    by (ReadFailed conn) same = end_connection_flow F _ conn (ap is_ending same) (ends (ReadFailed conn) same refl) (λ asked. ends (ReadFailed conn) same refl) h
+    by (Bad conn) same = end_connection_flow F _ conn (ap is_ending same) (ends (Bad conn) same refl) (λ asked. ends (Bad conn) same refl) h
+    by (WriteFailed conn lost) same = end_connection_flow F _ conn (ap is_ending same) (ends (WriteFailed conn lost) same refl) (unsent (ends (WriteFailed conn lost) same refl) (B.marshal (ap is_unwritten same)) (Endings.unsent_calls s conn lost)) h
     by (Committed task k op) same = commit_flow F task k op (ap Space.answers_outputs same) (ap is_storing same) h
     by (Parked task k) same = park_flow F task k same B h
     by (GivenBack task k) same = give_back_flow F task k (ap Space.answers_outputs same) h

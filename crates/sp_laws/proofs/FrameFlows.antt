@@ -18,7 +18,7 @@ use Rattle.space_ids.specs.declared.value.Value.{Value}
 use Rattle.sp_rules.specs.Behaviours.{Outcome, Call, Reply, GivesBack, Throws}
 use Rattle.sp_rules.specs.Classes.{Setting, Kind, fit_kinds}
 use Rattle.sp_rules.specs.Endings
-use Rattle.sp_rules.specs.Events.{Started, Ended, Turn, Sends, Note, Event, Moment, Sweep, Root, RootAck, Lookup, Opened, Refused, Received, Closed, ReadFailed, Bad, WriteFailed, Committed, Parked, Finished, Output, Withdrawn, Denied, Send, Dial, Close, Ready}
+use Rattle.sp_rules.specs.Events.{Started, Ended, Turn, Sends, Note, Event, Moment, Sweep, Root, RootAck, Lookup, Opened, Refused, Received, Closed, ReadFailed, Bad, WriteFailed, Committed, Parked, GivenBack, Finished, Output, Withdrawn, Denied, Send, Dial, Close, Ready}
 use Rattle.sp_rules.specs.Frames
 use Rattle.sp_rules.specs.Holders
 use Rattle.sp_rules.specs.Holders.{hold_ids, drop_ids}
@@ -35,7 +35,8 @@ use Rattle.sp_rules.specs.State.{State, Object, Stored, Living, Origin, OfRoot, 
 use Rattle.sp_rules.specs.Tasks.{AsksFor, HasEnded, stand, steps}
 use Rattle.sp_rules.proofs.Stable.{new_row}
 use Rattle.sp_laws.proofs.FlowRules.{Owed, Removed, Inbound, removed, of_origin, of_until, IsSameRow}
-use Rattle.sp_laws.specs.Sent.{is_send, is_hello, IsRefusal}
+use Rattle.sp_laws.specs.Changes.{IsOfSpace}
+use Rattle.sp_laws.specs.Sent.{is_send, is_hello, IsCallRefusal, IsRefusal}
 
 -- ---- what is kept in an event
 
@@ -72,11 +73,11 @@ abbrev pub IsFrom : View → Origin → Type 0
 IsFrom V OfRoot = Unit {0}
 IsFrom V (OfCall conn number) = V.Dialled conn false
 
--- what is known of a frame as it is sent
+-- what is known of a frame as it is sent: a call or lookup goes out with its request
 abbrev pub CanSend : View → ℕ → Message → Type 0
 CanSend V conn (message.Hello version space digest) = (dialled : Option Uuid) × (V.event ≡ Opened conn dialled)
-CanSend V conn (message.Call number object method fuel arguments) = V.Dialled conn true
-CanSend V conn (message.Lookup number name) = V.Dialled conn true
+CanSend V conn (message.Call number object method fuel arguments) = ⊥
+CanSend V conn (message.Lookup number name) = ⊥
 CanSend V conn (message.Ack number) = V.Dialled conn true
 CanSend V conn (message.Dirty sequence period objects) = V.Dialled conn true
 CanSend V conn (message.Clean sequence strong objects) = V.Dialled conn true
@@ -141,6 +142,14 @@ pub ending-goes : (e : Event) → is_ending e ≡ true → is_finish e ≡ false
 ending-goes (Finished task k) is = absurd (true≢false (sym is))
 ending-goes _ is = refl
 
+-- and it is of no task
+pub ending-apart : (e : Event) → is_ending e ≡ true → IsOfSpace e
+ending-apart (Committed task k op) is = absurd (true≢false (sym is))
+ending-apart (Parked task k) is = absurd (true≢false (sym is))
+ending-apart (GivenBack task k) is = absurd (true≢false (sym is))
+ending-apart (Finished task k) is = absurd (true≢false (sym is))
+ending-apart _ is = refl
+
 -- the events with which no peer is reached: a Dial is refused, a first Hello is wrong
 abbrev pub is_unreached : Event → Bool
 is_unreached (Refused peer) = true
@@ -172,7 +181,7 @@ pub record Flows (V : View) : Type 0 where
   pub starts : (l : List Owed) (s : State) (p : ParkedFrame) (target : ObjId) (method fuel : ℕ) (arguments : List Value) (o : Object) (selected : ℕ) → is_ending V.event ≡ true → V.Keeps l s → V.Known p → p.frame ≡ CallFrame target method fuel arguments → object_at s target ≡ Some o → V.setting.classes.selected o.class method ≡ Some selected
       → V.Starts (OfCall p.conn p.number) selected (values.Ref (record { space = V.setting.id; id = target; class = o.class }) ∷ arguments)
   pub gives : (p : ParkedFrame) (value : Option Value) (fuel : ℕ) (asked : Asked) → is_ending V.event ≡ true → V.Known p → p.frame ≡ ReturnedFrame value fuel → ParkedFrames.has_number p.number asked ≡ true → V.Ends asked (GivesBack value fuel)
-  pub refuses : (conn number : ℕ) (class : ClassId) → IsRefusal V.setting class → V.Answers conn (message.Threw number class)
+  pub refuses : (conn number : ℕ) (class : ClassId) → IsRefusal V.setting V.event conn number class → V.Answers conn (message.Threw number class)
   pub finds : (conn number : ℕ) (name : List ℕ) (r : Ref) → V.event ≡ Received conn (message.Lookup number name) → r.space ≡ V.setting.id → V.Answers conn (message.Returned number 0 (Some (values.Ref r)))
   -- outputs
   pub quiet : (l : List Owed) (s t : State) → event_parts t ≡ event_parts s → V.Keeps l s → V.Keeps l t

@@ -37,7 +37,8 @@ use Rattle.sp_rules.proofs.OwnLemmas.{some-same}
 use Rattle.sp_rules.proofs.ReadyLemmas.{ready-is}
 use Rattle.sp_laws.proofs.FlowRules.{Owed, Removed, Inbound, of_origin, of_until}
 use Rattle.sp_laws.proofs.ShutLemmas.{connection-ends}
-use Rattle.sp_laws.proofs.FrameFlows.{HasComeOn, View, IsFrom, CanSend, IsKeptIn, IsHeldFor, is_finish, is_ending, is_storing, ending-goes, out, Flows, Begins, if_flow, some_flow, each_flow, each_removed, send_flow, hold_flow, drop_flow, let_go_flow}
+use Rattle.sp_laws.specs.Sent.{IsCallRefusal}
+use Rattle.sp_laws.proofs.FrameFlows.{HasComeOn, View, IsFrom, CanSend, IsKeptIn, IsHeldFor, is_finish, is_ending, is_storing, ending-goes, ending-apart, out, Flows, Begins, if_flow, some_flow, each_flow, each_removed, send_flow, hold_flow, drop_flow, let_go_flow}
 
 -- ---- requests
 
@@ -235,6 +236,10 @@ finish_flow {V} F {s} id k same B h = some_flow F (ready_at s id) _ h (λ t is. 
 
 -- ---- parked frames
 
+-- a call is answered by an exception
+pub refused : {V : View} (F : Flows V) → is_ending V.event ≡ true → (conn number : ℕ) (class : ClassId) → IsCallRefusal V.setting class → V.Answers conn (message.Threw number class)
+refused {V} F going conn number class why = F.refuses conn number class (record { apart = ending-apart V.event going; why = inl why })
+
 pub start_call_flow : {V : View} (F : Flows V) {l : List Owed} {s : State} (p : ParkedFrame) (target : ObjId) (method fuel : ℕ) (arguments : List Value) → is_ending V.event ≡ true → V.Dialled p.conn false → V.Known p → p.frame ≡ CallFrame target method fuel arguments → V.Keeps (Inbound p.conn p.number ∷ l) s
     → V.Keeps l (ParkedFrames.start_call V.setting p target method fuel arguments s)
 unfolding ParkedFrames.start_call
@@ -242,7 +247,7 @@ start_call_flow {V} F {l} {s} p target method fuel arguments going there known e
   where
     selected : (o : Object) → object_at s target ≡ Some o → (found : Option ℕ) → V.setting.classes.selected o.class method ≡ found
         → V.Keeps l (ParkedFrames.start_selected V.setting p.conn p.number (record { space = V.setting.id; id = target; class = o.class }) found fuel arguments s)
-    selected o is None x = send_flow F _ p.conn _ (there, F.refuses p.conn p.number _ (inr (inr (inl refl)))) tt (F.falls l s p.conn p.number h)
+    selected o is None x = send_flow F _ p.conn _ (there, refused F going p.conn p.number _ (inr (inr refl))) tt (F.falls l s p.conn p.number h)
     selected o is (Some m) x = add_task_flow F (OfCall p.conn p.number) m _ fuel (ending-goes V.event going) (F.starts (Inbound p.conn p.number ∷ l) s p target method fuel arguments o m going h known e is x) h
 
 pub both-right : (a b : Bool) → a && b ≡ true → b ≡ true
@@ -280,50 +285,50 @@ pub park_result_flow : {V : View} (F : Flows V) {l : List Owed} {s : State} (con
 unfolding ParkedFrames.park_frame
 park_result_flow F {l} {s} conn number value fuel references going known h = go_all_flow F going (hold_flow F references (F.parks_result l s (record { conn = conn; number = number; frame = ReturnedFrame value fuel; references = references }) known refl h))
 
-pub fail_parked_flow : {V : View} (F : Flows V) {l : List Owed} {s : State} (p : ParkedFrame) → V.Fails V.setting.classes.unmarshal → V.Known p → V.Keeps l s → V.Keeps l (ParkedFrames.fail_parked V.setting s p)
+pub fail_parked_flow : {V : View} (F : Flows V) {l : List Owed} {s : State} (p : ParkedFrame) → is_ending V.event ≡ true → V.Fails V.setting.classes.unmarshal → V.Known p → V.Keeps l s → V.Keeps l (ParkedFrames.fail_parked V.setting s p)
 unfolding ParkedFrames.fail_parked
-fail_parked_flow {V} F {l} {s} p may known h = frame p.frame refl (let_go_flow F p s.parked (F.takes l s p h))
+fail_parked_flow {V} F {l} {s} p going may known h = frame p.frame refl (let_go_flow F p s.parked (F.takes l s p h))
   where
     sided : {f : Frame} → p.frame ≡ f → V.Dialled p.conn (not (Frames.is_call_frame f))
     sided e = subst (λ f. V.Dialled p.conn (not (Frames.is_call_frame f))) e (F.sided p known)
 
     frame : (f : Frame) → p.frame ≡ f → {t : State} → V.Keeps l t → V.Keeps l (ParkedFrames.fail_frame V.setting p f t)
-    frame (CallFrame target method fuel arguments) e k = send_flow F _ p.conn _ (sided e, F.refuses p.conn p.number _ (inr (inl refl))) tt k
+    frame (CallFrame target method fuel arguments) e k = send_flow F _ p.conn _ (sided e, refused F going p.conn p.number _ (inr (inl refl))) tt k
     frame (ReturnedFrame value fuel) e k = answer_parked_flow F p (Throws V.setting.classes.unmarshal) (sided e) (λ asked has. F.fails asked V.setting.classes.unmarshal may) k
 
 -- ---- endings
 
-pub fail_dirty_flow : {V : View} (F : Flows V) {l : List Owed} {s : State} (call : ℕ) (id : ForeignId) → V.Fails V.setting.classes.unmarshal → V.Keeps l s → V.Keeps l (Endings.fail_dirty V.setting call s id)
+pub fail_dirty_flow : {V : View} (F : Flows V) {l : List Owed} {s : State} (call : ℕ) (id : ForeignId) → is_ending V.event ≡ true → V.Fails V.setting.classes.unmarshal → V.Keeps l s → V.Keeps l (Endings.fail_dirty V.setting call s id)
 unfolding Endings.fail_dirty each
-fail_dirty_flow {V} F {l} {s} call id may h = if_flow F (lease.is_made (Holders.lease_now s id).dirty call && is_none (Holders.lease_now s id).lease) (each_known (filter (ParkedFrames.names id) s.parked) (all-filter V.Known (ParkedFrames.names id) s.parked (F.known l s h)) failed) failed
+fail_dirty_flow {V} F {l} {s} call id going may h = if_flow F (lease.is_made (Holders.lease_now s id).dirty call && is_none (Holders.lease_now s id).lease) (each_known (filter (ParkedFrames.names id) s.parked) (all-filter V.Known (ParkedFrames.names id) s.parked (F.known l s h)) failed) failed
   where
     failed : V.Keeps l (record s { leases = client.On id (lease_events.DirtyFailed call) ∷ s.leases })
     failed = F.quiet l s _ refl h
 
     each_known : (ps : List ParkedFrame) → AllOf V.Known ps → {t : State} → V.Keeps l t → V.Keeps l (each (ParkedFrames.fail_parked V.setting) ps t)
     each_known [] a k = k
-    each_known (p ∷ ps) a {t} k = each_known ps a.1 (fail_parked_flow F p may a.0 k)
+    each_known (p ∷ ps) a {t} k = each_known ps a.1 (fail_parked_flow F p going may a.0 k)
 
-pub fail_group_flow : {V : View} (F : Flows V) {l : List Owed} {s : State} (kind : Due) (b : Group) (call : ℕ) → V.Fails V.setting.classes.unmarshal → V.Keeps l s → V.Keeps l (Endings.fail_group V.setting kind b call s)
-fail_group_flow {V} F due.Dirty b call may h = each_flow F _ _ (λ t x k. fail_dirty_flow F call x may k) h
-fail_group_flow {V} F {l} (due.Clean strong) b call may h = each_flow F _ _ (λ t x k. F.quiet l t _ refl k) h
+pub fail_group_flow : {V : View} (F : Flows V) {l : List Owed} {s : State} (kind : Due) (b : Group) (call : ℕ) → is_ending V.event ≡ true → V.Fails V.setting.classes.unmarshal → V.Keeps l s → V.Keeps l (Endings.fail_group V.setting kind b call s)
+fail_group_flow {V} F due.Dirty b call going may h = each_flow F _ _ (λ t x k. fail_dirty_flow F call x going may k) h
+fail_group_flow {V} F {l} (due.Clean strong) b call going may h = each_flow F _ _ (λ t x k. F.quiet l t _ refl k) h
 
-pub end_asked_flow : {V : View} (F : Flows V) {l : List Owed} {s : State} {peer : Uuid} (class : ClassId) (asked : Asked) → V.Fails V.setting.classes.unmarshal → V.Fails class → V.Keeps (Removed peer asked ∷ l) s → V.Keeps l (Endings.end_asked V.setting class asked s)
-end_asked_flow F class (Calls number task lent kind m) may why h = reply_to_flow F (Calls number task lent kind m) (Throws class) (F.fails _ class why) h
-end_asked_flow F class (LooksUp number task name) may why h = reply_to_flow F (LooksUp number task name) (Throws class) (F.fails _ class why) h
-end_asked_flow F {l} {s} {peer} class (Tells call group) may why h = fail_group_flow F group.kind group call may (F.told l s peer call group h)
+pub end_asked_flow : {V : View} (F : Flows V) {l : List Owed} {s : State} {peer : Uuid} (class : ClassId) (asked : Asked) → is_ending V.event ≡ true → V.Fails V.setting.classes.unmarshal → V.Fails class → V.Keeps (Removed peer asked ∷ l) s → V.Keeps l (Endings.end_asked V.setting class asked s)
+end_asked_flow F class (Calls number task lent kind m) going may why h = reply_to_flow F (Calls number task lent kind m) (Throws class) (F.fails _ class why) h
+end_asked_flow F class (LooksUp number task name) going may why h = reply_to_flow F (LooksUp number task name) (Throws class) (F.fails _ class why) h
+end_asked_flow F {l} {s} {peer} class (Tells call group) going may why h = fail_group_flow F group.kind group call going may (F.told l s peer call group h)
 
-pub end_requests_flow : {V : View} (F : Flows V) {l : List Owed} {s : State} (is : Request → Bool) (why : Asked → ClassId) → V.Fails V.setting.classes.unmarshal → ((asked : Asked) → V.Fails (why asked)) → V.Keeps l s → V.Keeps l (Endings.end_requests V.setting is why s)
+pub end_requests_flow : {V : View} (F : Flows V) {l : List Owed} {s : State} (is : Request → Bool) (why : Asked → ClassId) → is_ending V.event ≡ true → V.Fails V.setting.classes.unmarshal → ((asked : Asked) → V.Fails (why asked)) → V.Keeps l s → V.Keeps l (Endings.end_requests V.setting is why s)
 unfolding Endings.end_requests
-end_requests_flow {V} F {l} {s} is why may all h =
-    each_removed F _ (filter (λ (q : Request). Endings.is_group q.asked) (filter is s.requests)) (λ m t q k. end_asked_flow F (why q.asked) q.asked may (all q.asked) k)
-    (each_removed F _ (filter (λ (q : Request). not (Endings.is_group q.asked)) (filter is s.requests)) (λ m t q k. end_asked_flow F (why q.asked) q.asked may (all q.asked) k)
+end_requests_flow {V} F {l} {s} is why going may all h =
+    each_removed F _ (filter (λ (q : Request). Endings.is_group q.asked) (filter is s.requests)) (λ m t q k. end_asked_flow F (why q.asked) q.asked going may (all q.asked) k)
+    (each_removed F _ (filter (λ (q : Request). not (Endings.is_group q.asked)) (filter is s.requests)) (λ m t q k. end_asked_flow F (why q.asked) q.asked going may (all q.asked) k)
     (F.sorts l _ (λ (q : Request). Endings.is_group q.asked) (filter is s.requests) (F.removes l s is h)))
 
-pub end_connection_flow : {V : View} (F : Flows V) {l : List Owed} {s : State} (why : Asked → ClassId) (conn : ℕ) → V.Fails V.setting.classes.unmarshal → ((asked : Asked) → V.Fails (why asked)) → V.Keeps l s → V.Keeps l (Endings.end_connection V.setting why conn s)
+pub end_connection_flow : {V : View} (F : Flows V) {l : List Owed} {s : State} (why : Asked → ClassId) (conn : ℕ) → is_ending V.event ≡ true → V.Fails V.setting.classes.unmarshal → ((asked : Asked) → V.Fails (why asked)) → V.Keeps l s → V.Keeps l (Endings.end_connection V.setting why conn s)
 unfolding Endings.end_connection
-end_connection_flow {V} F {l} {s} why conn may all h = some_flow F (connection_at s conn) _ h (λ c is. end_requests_flow F _ why may all (each_flow F _ _ (λ t p k. let_go_flow F p t.parked (F.takes l t p k)) (F.closes l s conn c is may h)))
+end_connection_flow {V} F {l} {s} why conn going may all h = some_flow F (connection_at s conn) _ h (λ c is. end_requests_flow F _ why going may all (each_flow F _ _ (λ t p k. let_go_flow F p t.parked (F.takes l t p k)) (F.closes l s conn c is may h)))
 
 pub close_flow : {V : View} (F : Flows V) {l : List Owed} {s : State} (class : ClassId) (conn : ℕ) → HasComeOn V conn → V.Fails V.setting.classes.unmarshal → V.Fails class → V.Keeps l s → V.Keeps l (Endings.close V.setting class conn s)
 unfolding Endings.close
-close_flow {V} F {l} {s} class conn came may why h = F.says l _ (Close conn) refl (came, connection-ends V.setting (λ asked. class) conn s) (end_connection_flow F _ conn may (λ asked. why) h)
+close_flow {V} F {l} {s} class conn came may why h = F.says l _ (Close conn) refl (came, connection-ends V.setting (λ asked. class) conn s) (end_connection_flow F _ conn (ap is_ending came.1) may (λ asked. why) h)

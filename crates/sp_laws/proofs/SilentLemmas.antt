@@ -17,7 +17,7 @@ use Rattle.sp_rules.proofs.AllLemmas.{all-more, ranks-all}
 use Rattle.sp_laws.specs.Inbound.{opens}
 use Rattle.sp_laws.specs.Open.{ends_on, is_sent_on, IsSilent, EndedConnectionsAreSilent}
 use Rattle.sp_laws.specs.Sent.{is_send}
-use Rattle.sp_laws.proofs.FrameFlows.{View, Flows, Begins, EventParts, event_parts, IsFrom, each_flow, let_go_flow}
+use Rattle.sp_laws.proofs.FrameFlows.{View, Flows, Begins, EventParts, event_parts, IsFrom, is_ending, each_flow, let_go_flow}
 use Rattle.sp_laws.proofs.FrameSteps.{settle_flow, end_requests_flow}
 use Rattle.sp_laws.proofs.FrameEvents.{happen_settles}
 use Rattle.sp_laws.proofs.OpenLemmas.{nothing-noted, all-unit, all-dialled}
@@ -162,14 +162,14 @@ shut g e conn s none k apart = by (Space.answers_outputs e)
     by false = tt
 
 -- an end of a connection that is there
-ended-there : (g : Setting) (e : Event) (why : Asked → ClassId) (conn : ℕ) (s : State) → s.notes ≡ [] → Quiet conn (event_parts (Endings.end_connection g why conn s))
+ended-there : (g : Setting) (e : Event) → is_ending e ≡ true → (why : Asked → ClassId) (conn : ℕ) (s : State) → s.notes ≡ [] → Quiet conn (event_parts (Endings.end_connection g why conn s))
 unfolding Endings.end_connection
-ended-there g e why conn s none = by (connection_at s conn) refl
+ended-there g e going why conn s none = by (connection_at s conn) refl
   where
     by : (o : Option Connection) → connection_at s conn ≡ o
         → Quiet conn (event_parts (with_some o s (λ c. Endings.end_requests g (Endings.is_of_connection conn c.dialled) why (each Endings.unpark (filter (λ (p : ParkedFrame). p.conn == conn) s.parked) (Endings.without_connection conn s)))))
     by None f = start conn s none (ap (λ (o : Option Connection). is_some o) f)
-    by (Some c) f = end_requests_flow (quiet_flow g e conn) {l = []} (Endings.is_of_connection conn c.dialled) why tt (λ asked. tt)
+    by (Some c) f = end_requests_flow (quiet_flow g e conn) {l = []} (Endings.is_of_connection conn c.dialled) why going tt (λ asked. tt)
         (each_flow (quiet_flow g e conn) {l = []} Endings.unpark (filter (λ (p : ParkedFrame). p.conn == conn) s.parked) (λ t p k. let_go_flow (quiet_flow g e conn) {l = []} p t.parked (others _ refl refl k))
         (start conn (Endings.without_connection conn s) none (row-ends conn s.connections)))
 
@@ -177,9 +177,16 @@ ended : (g : Setting) (e : Event) (conn : ℕ) (s : State) → s.notes ≡ [] �
 unfolding Space.on Space.happen Endings.fail_write
 ended g e conn s none is = by e is
   where
+    going : (d : Event) → ends_on conn d ≡ true → is_ending d ≡ true
+    going (Closed c) at = refl
+    going (ReadFailed c) at = refl
+    going (Bad c) at = refl
+    going (WriteFailed c unsent) at = refl
+    going _ at = absurd (true≢false (sym at))
+
     after-end : (why : Asked → ClassId) (c : ℕ) → (c == conn) ≡ true → IsSilent conn (Space.finish_event true (Endings.end_connection g why c s)).1
     after-end why c same = ordered conn (Requests.settle (Endings.end_connection g why c s))
-        (settle_flow (quiet_flow g e conn) (subst (λ n. Quiet conn (event_parts (Endings.end_connection g why n s))) (sym (eqb-true c conn same)) (ended-there g e why conn s none)))
+        (settle_flow (quiet_flow g e conn) (subst (λ n. Quiet conn (event_parts (Endings.end_connection g why n s))) (sym (eqb-true c conn same)) (ended-there g e (going e is) why conn s none)))
 
     by : (d : Event) → ends_on conn d ≡ true → IsSilent conn (Space.on g d s).1
     by (Closed c) is = after-end (Endings.by_unmarshal g) c is

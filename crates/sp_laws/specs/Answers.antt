@@ -29,11 +29,11 @@ pub record IsOutcome (g : Setting) (s : State) (e : Event) (conn : ℕ) (m : Mes
   pub says : m ≡ reply_frame g number (steps made row.task).fuel outcome
 
 -- The frame is such an exception.
-pub record IsRefused (g : Setting) (m : Message) : Type 0 where
+pub record IsRefused (g : Setting) (e : Event) (conn : ℕ) (m : Message) : Type 0 where
   pub number : ℕ
   pub class : ClassId
   pub says : m ≡ message.Threw number class
-  pub refusal : IsRefusal g class
+  pub refusal : IsRefusal g e conn number class
 
 -- The event is a Lookup of this number that comes on the connection, and the frame gives a reference of an own object.
 pub record IsFound (g : Setting) (e : Event) (conn : ℕ) (m : Message) : Type 0 where
@@ -46,7 +46,7 @@ pub record IsFound (g : Setting) (e : Event) (conn : ℕ) (m : Message) : Type 0
 
 -- What an answer is: the outcome of the call's task, an exception of a call or lookup that starts none, or what a lookup found.
 abbrev pub IsAnswer : Setting → State → Event → ℕ → Message → Type 0
-IsAnswer g s e conn m = IsOutcome g s e conn m ⊎ (IsRefused g m ⊎ IsFound g e conn m)
+IsAnswer g s e conn m = IsOutcome g s e conn m ⊎ (IsRefused g e conn m ⊎ IsFound g e conn m)
 
 -- each Returned, Threw and Spent is one
 abbrev pub Answers : Setting → State → Event → ℕ → Message → Type 0

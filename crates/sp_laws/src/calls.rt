@@ -47,9 +47,9 @@ pub fn calls_end_as_named()
 /// After every history of a space each Returned, Threw and Spent with which an event is answered is
 /// one of three. The event ends the task that the call of the frame's number on that connection
 /// started, and the frame says how the task ended, an Error as ServerError and a RemoteException as
-/// ServerException, and the fuel that it left. Or the frame throws NoSuchObjectException,
-/// UnmarshalException, ServerError or NotBoundException. Or a Lookup of that number came, and the
-/// frame gives a reference of an own object.
+/// ServerException, and the fuel that it left. Or the event is of no task, and the frame throws
+/// NoSuchObjectException, UnmarshalException or ServerError. Or a Lookup of that number came, and the
+/// frame throws NotBoundException or gives a reference of an own object.
 pub fn answers_are_outcomes()
     ensures { AnswersAreOutcomes }
 {}

@@ -66,7 +66,7 @@ call-answers number task lent kind m said x = ap (answered_in x) said.1.1.1.1 �
     none ResultAck = refl
 
 -- what is kept beside nothing that is owed
-abbrev Kept : Exchange → ℕ → ℕ → ℕ → ℕ → State → Type 0
+abbrev pub Kept : Exchange → ℕ → ℕ → ℕ → ℕ → State → Type 0
 Kept x conn k sent bound s = Owing x conn k sent bound every [] s
 
 send_kept : (x : Exchange) (conn k sent bound : ℕ) (s : State) (turn : Turn) (n : ℕ) (m : Message) → AnswersNothing m → Kept x conn k sent bound s → Kept x conn k sent bound (send turn n m s)
@@ -162,7 +162,7 @@ settle_kept x conn k sent bound top s fresh h = asks_kept x conn k sent bound (r
 
 -- ---- notes are answered once
 
-value : Exchange → ℕ → ℕ → Output → ℕ
+unfoldable pub value : Exchange → ℕ → ℕ → Output → ℕ
 value x conn k o = times k (flat_map (answered_in x) (frame_in conn o))
 
 below : Exchange → ℕ → ℕ → ℕ → Note → ℕ
@@ -263,7 +263,7 @@ owing_begins g x conn k sent bound s e said = record {
   looks = λ peer name is h. h;
 }
 
-on_kept : (g : Setting) (lent : List ℕ) (x : Exchange) (conn k bound : ℕ) (outs : List Output) (s : State) (e : Event) → refusal g lent s e ≡ None → ((n : ℕ) → opens n e ≡ true → flat_map (Rattle.sp_order_laws.proofs.RisingMoves.calls_at n) outs ≡ []) → Risen outs s
+pub on_kept : (g : Setting) (lent : List ℕ) (x : Exchange) (conn k bound : ℕ) (outs : List Output) (s : State) (e : Event) → refusal g lent s e ≡ None → ((n : ℕ) → opens n e ≡ true → flat_map (Rattle.sp_order_laws.proofs.RisingMoves.calls_at n) outs ≡ []) → Risen outs s
     → Owing x conn k (total (value x conn k) outs) bound every (owed_by e) s → Kept x conn k (total (value x conn k) (outs ++ (Space.on g e s).1)) bound (Space.on g e s).0
 unfolding Space.on
 on_kept g lent x conn k bound outs s e taken none r h = finish_kept x conn k bound s.calls_made outs (Space.happen g e s) (Space.answers_outputs e) (happen_walk (rising_walks g outs s.calls_made) e (rising_begins g lent outs s e taken r.rested none) r.rising).fresh
@@ -272,7 +272,7 @@ on_kept g lent x conn k bound outs s e taken none r h = finish_kept x conn k bou
 -- ---- histories
 
 -- what comes with an event is owed
-came-more : (x : Exchange) (conn k : ℕ) (e : Event) (h : List Event) → times_asked x k (came_on conn (e ∷ h)) ≡ times_asked x k (came_on conn h) + owed_of x conn k (owed_by e)
+pub came-more : (x : Exchange) (conn k : ℕ) (e : Event) (h : List Event) → times_asked x k (came_on conn (e ∷ h)) ≡ times_asked x k (came_on conn h) + owed_of x conn k (owed_by e)
 came-more x conn k e h =
     let a : times k (flat_map (asked_in x) (came_on conn h ++ frame_of conn e)) ≡ times k (flat_map (asked_in x) (came_on conn h) ++ flat_map (asked_in x) (frame_of conn e)) = ap (times k) (flat-append (asked_in x) (came_on conn h) (frame_of conn e)) in
     let b : times k (flat_map (asked_in x) (came_on conn h) ++ flat_map (asked_in x) (frame_of conn e)) ≡ times_asked x k (came_on conn h) + times k (flat_map (asked_in x) (frame_of conn e)) = times-append k (flat_map (asked_in x) (came_on conn h)) (flat_map (asked_in x) (frame_of conn e)) in

@@ -7,16 +7,16 @@ pub mod RisingHistories
 pub mod RisingLaws
 pub mod WorldFacts
 pub mod RisingWorlds
-mod AnsweringMoves
-mod AnsweringLaws
-mod PlaceWorlds
+pub mod AnsweringMoves
+pub mod AnsweringLaws
+pub mod PlaceWorlds
 pub mod LastMoves
 pub mod LastWorlds
 mod ListLemmas
 mod QueueLemmas
 pub mod DeliveryLemmas
 mod CameLemmas
-mod EndLemmas
+pub mod EndLemmas
 pub mod TurnLemmas
 pub mod RowLemmas
 pub mod FirstLemmas
@@ -39,3 +39,6 @@ pub mod OrderRules
 pub mod OrderLaws
 pub mod HeardLemmas
 pub mod TimeLemmas
+mod KindLemmas
+mod RefusedLemmas
+mod CallAnswerLemmas

@@ -129,7 +129,7 @@ one-connection : (f : Message → List ℕ) (k c : ℕ) (os : List Output) → t
 one-connection f k c os = let a : times k (flat_map f (sent_on c os)) + times k (flat_map f (sent_on (c + 1) os)) ≤ times k (flat_map f (frames_in os)) = two-connections f k c (c + 1) os (λ e. omega (arith, e)) in omega arith
 
 -- numbers that rise stand once
-rises-once : (k n top : ℕ) (xs : List ℕ) → RisesWithin n top xs → times k xs + count (nat_le k n) ≤ 1
+pub rises-once : (k n top : ℕ) (xs : List ℕ) → RisesWithin n top xs → times k xs + count (nat_le k n) ≤ 1
 rises-once k n top [] r = let a : count (nat_le k n) ≤ 1 = small (nat_le k n) in omega arith
 rises-once k n top (x ∷ xs) r = pick (x == k) refl (nat_le k n) refl (nat_le k x) refl (rises-once k x top xs r.1)
   where

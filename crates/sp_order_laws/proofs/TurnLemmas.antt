@@ -105,8 +105,8 @@ from-is g e h (OfCall conn number) a = a
 -- what is known of a frame says its turn
 can-may : (g : Setting) (e : Event) (h : List Event) (conn : ℕ) (m : Message) → CanSend (view g e h) conn m → SaysInTurn e h conn m
 can-may g e h conn (message.Hello version space digest) a = a
-can-may g e h conn (message.Call number object method fuel arguments) a = a
-can-may g e h conn (message.Lookup number name) a = a
+can-may g e h conn (message.Call number object method fuel arguments) a = absurd a
+can-may g e h conn (message.Lookup number name) a = absurd a
 can-may g e h conn (message.Ack number) a = a
 can-may g e h conn (message.Dirty sequence period objects) a = a
 can-may g e h conn (message.Clean sequence strong objects) a = a

@@ -16,3 +16,4 @@ pub mod Senders
 pub mod RequestOrder
 pub mod Heard
 pub mod InTime
+pub mod CallAnswers
