@@ -9,6 +9,7 @@ ghost use Rattle.sp_laws.specs.Roots.{RootsSpendTheirFuel};
 ghost use Rattle.sp_laws.specs.Started.{CallsStartOneTaskInWorlds};
 ghost use Rattle.sp_laws.specs.Waiting.{EndedCallsStayEnded};
 ghost use Rattle.sp_machine_laws.specs.Machines.{TasksAreMachinesInWorlds};
+ghost use Rattle.sp_order_laws.specs.CallAnswers.{CallsEndAsAnswered, RefusedCallsStartNone};
 ghost use Rattle.sp_order_laws.specs.Ends.{CallsEndByCallees};
 ghost use Rattle.sp_order_laws.specs.Senders.{SendersHold};
 ghost use Rattle.sp_rules.specs.Laws.{EventsLeaveOwners, FailuresRemoveNothing, OnlySweepsWithdraw, SweepIsExact, TasksAreRuns};
@@ -26,6 +27,7 @@ use sp_laws::laws::{ended_calls_stay_ended, every_reference_is_made};
 use sp_laws::trees::roots_spend_their_fuel;
 use sp_machine_laws::laws::tasks_are_machines_in_worlds;
 use sp_order_laws::answers::senders_hold;
+use sp_order_laws::ends::{calls_end_as_answered, refused_calls_start_none};
 use sp_order_laws::worlds::calls_end_by_callees;
 use sp_rules::laws::{failures_remove_nothing, sweeps_are_exact, tasks_are_runs};
 use sp_world::{Unfinished, World, WorldEvent, WorldSpace};
@@ -59,6 +61,11 @@ pub fn run<S: WorldSpace + Drop>(
     ensures started_once { CallsStartOneTaskInWorlds }
     ensures ended_once { EndedCallsStayEnded }
     ensures ended_by_callees { CallsEndByCallees }
+    // It ends with the outcome of the task that it started; or with NoSuchObjectException, UnmarshalException or
+    // ServerError of its callee, and then it started no task there, before or later; or with the exception of a failure.
+    // NotBoundException and what a look-up found end look-ups alone.
+    ensures ended_as_answered { CallsEndAsAnswered }
+    ensures refused_unstarted { RefusedCallsStartNone }
     // A root and all that its calls start spend no more than its fuel.
     ensures fuel { RootsSpendTheirFuel }
     // A Sweep withdraws exactly the objects that had no reason to stay as it began; nothing else withdraws one.
@@ -83,6 +90,8 @@ pub fn run<S: WorldSpace + Drop>(
     calls_start_one_task_in_worlds();
     ended_calls_stay_ended();
     calls_end_by_callees();
+    calls_end_as_answered();
+    refused_calls_start_none();
     roots_spend_their_fuel();
     sweeps_are_exact();
     failures_remove_nothing();
