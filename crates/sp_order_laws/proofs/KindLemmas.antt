@@ -332,7 +332,7 @@ ungiven ways waits g k h taken once high = record {
     none =
         let a : times k (sent calls_in (Space.all_outputs g h) s.notes) + (times k (flat_map waiting_number s.requests) + times k (flat_map number_of [])) ≤ count (nat_le k s.calls_made) = r.rising.once k in
         let b : times k (sent calls_in (Space.all_outputs g h) s.notes) ≡ times k (flat_map calls_in (Space.all_outputs g h)) =
-            ap (λ (ns : List Note). times k (sent calls_in (Space.all_outputs g h) ns)) r.rested.notes ∙ ap (times k) (sent-none calls_in (Space.all_outputs g h)) in
+        ap (λ (ns : List Note). times k (sent calls_in (Space.all_outputs g h) ns)) r.rested.notes ∙ ap (times k) (sent-none calls_in (Space.all_outputs g h)) in
         let c : count (nat_le k s.calls_made) ≡ 0 = above (nat_le k s.calls_made) refl in omega (arith, a, b, c)
 
 -- a number that was given makes no more look-ups

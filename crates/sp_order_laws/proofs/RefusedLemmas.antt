@@ -224,7 +224,7 @@ answering-step ways g h e conn k taken once = by (on_kept g taken.0.0 CallReply 
         → answers conn k (Space.on g e s).1 + (parked conn k (Space.on g e s).0.parked + started conn k (Space.on g e s).0.tasks) ≤ (parked conn k s.parked + started conn k s.tasks) + owed conn k e
     by j =
         let a : total (value CallReply conn k) (outs ++ (Space.on g e s).1) + (total (noted CallReply conn k) (Space.on g e s).0.notes + (parked conn k (Space.on g e s).0.parked + (started conn k (Space.on g e s).0.tasks + 0)))
-                ≤ total (value CallReply conn k) outs + (parked conn k s.parked + (started conn k s.tasks + owed conn k e)) = j.holds in
+        ≤ total (value CallReply conn k) outs + (parked conn k s.parked + (started conn k s.tasks + owed conn k e)) = j.holds in
         let b : total (value CallReply conn k) (outs ++ (Space.on g e s).1) ≡ total (value CallReply conn k) outs + answers conn k (Space.on g e s).1 = total-append (value CallReply conn k) outs (Space.on g e s).1 in omega (arith, a, b)
 
 -- ---- histories
@@ -275,6 +275,7 @@ counted-none g conn k = record {
     told : (later : List Event) (e : Event) (before : List Event) → later ++ e ∷ before ≡ [] → ⊥
     told [] e before same = true≢false (sym (ap is_nil same))
     told (x ∷ later) e before same = true≢false (sym (ap is_nil same))
+
 counted-more : FramesGoTheirWay → (g : Setting) (e : Event) (h : List Event) (conn k : ℕ) → IsTaken g (e ∷ h) → OpensOnce (e ∷ h) → Counted g conn k h → Counted g conn k (e ∷ h)
 unfolding tail_of head_of
 counted-more ways g e h conn k taken once c = by (is_finish e) refl
