@@ -31,7 +31,8 @@ pub fn method_of(
 
 /// The name of a class, or no name for one that is not in the set.
 pub fn class_name_of(program: &Program, class: ClassId) -> &[u8]
-    ensures { Some result.now ≡ name_at program.now.classes class ⊎ (name_at program.now.classes class ≡ None) }
+    ensures { Some result.now
+        ≡ name_at program.now.classes class ⊎ (name_at program.now.classes class ≡ None) }
 {
     let set = program.linked().set();
     if usize::from(class.0) < set.len() {

@@ -59,7 +59,9 @@ impl<'p> Named for ProgramSpace<'p> {
     }
 
     fn object(&self, index: usize) -> Option<Shown>
-        ensures { (g : Setting) (s : State) → IsSpace g s self.now.space → option_map shown_of result ≡ option_map (shown s) (slice_get (standing s.store) index) }
+        ensures { (g : Setting) (s : State) → IsSpace g s self.now.space
+            → option_map shown_of result
+            ≡ option_map (shown s) (slice_get (standing s.store) index) }
     {
         match self.space.object(index) {
             Some(shown) => Some(shown_as(&shown)),
@@ -68,7 +70,8 @@ impl<'p> Named for ProgramSpace<'p> {
     }
 
     fn class_name(&self, class: ClassId) -> &[u8]
-        ensures { Some result.now ≡ name_at self.now.space.program.now.classes class ⊎ (name_at self.now.space.program.now.classes class ≡ None) }
+        ensures { Some result.now
+            ≡ name_at self.now.space.program.now.classes class ⊎ (name_at self.now.space.program.now.classes class ≡ None) }
     {
         class_name_of(self.space.program(), class)
     }
@@ -76,7 +79,8 @@ impl<'p> Named for ProgramSpace<'p> {
 
 impl<'p> ScriptSpace for ProgramSpace<'p> {
     fn ready(&self) -> Option<u64>
-        ensures { (g : Setting) (s : State) → IsSpace g s self.now.space → result ≡ lowest_ready [] s }
+        ensures { (g : Setting) (s : State) → IsSpace g s self.now.space → result
+            ≡ lowest_ready [] s }
     {
         self.space.ready()
     }

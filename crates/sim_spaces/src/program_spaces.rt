@@ -66,7 +66,9 @@ impl<'p> ProgramSpaces<'p> {
 impl<'p> Origin<ProgramSpace<'p>> for ProgramSpaces<'p> {
     // It keeps within the limits that are there unless others are asked for.
     fn space(&self, id: Uuid) -> Result<ProgramSpace<'p>, AllocError>
-        ensures { IfOk result (λ home. (g : Setting) → g.classes ≡ classes_of self.now.links → g.id ≡ id → g.digest ≡ self.now.digest → AreLimits g played_limits → IsSpace g opening home.space) }
+        ensures { IfOk result (λ home. (g : Setting) → g.classes ≡ classes_of self.now.links
+            → g.id ≡ id → g.digest ≡ self.now.digest → AreLimits g played_limits
+            → IsSpace g opening home.space) }
     {
         let space = Space::new(
             self.alloc,

@@ -44,14 +44,16 @@ pub fn command<F: Folder, I: Read, O: Write, E: Write>(
     ensures statuses { result ≤ 3 }
     // What is printed is what the command line asks for: a text, or how the method ended, or why it
     // is not run.
-    ensures replied { result < 3 → Replies (told_by (F.lists folder.now) (F.gives folder.now)) (map string_bytes words.now) result
+    ensures replied { result < 3 → Replies
+        (told_by (F.lists folder.now) (F.gives folder.now)) (map string_bytes words.now) result
         (O.contents out.old) (O.contents out.new) (E.contents err.old) (E.contents err.new) }
 
     // Answers go to standard output, faults to standard error.
     ensures answers { result < 2 → E.contents err.new ≡ E.contents err.old }
     ensures refused { result ≡ 2 → O.contents out.new ≡ O.contents out.old }
     // Status 3 says what failed. Nothing is printed on standard output but the front of an answer that was due there.
-    ensures failed { result ≡ 3 → Fails (told_by (F.lists folder.now) (F.gives folder.now)) (map string_bytes words.now)
+    ensures failed { result ≡ 3 → Fails
+        (told_by (F.lists folder.now) (F.gives folder.now)) (map string_bytes words.now)
         (O.contents out.old) (O.contents out.new) (E.contents err.old) (E.contents err.new) }
 {
     match report_of(alloc, words, folder) {
@@ -61,7 +63,9 @@ pub fn command<F: Folder, I: Read, O: Write, E: Write>(
 }
 
 fn report_of<F: Folder>(alloc: Global, words: &[String], folder: &F) -> Result<Report, AllocError>
-    ensures { IfOk result (λ report. IsReply (told_by (F.lists folder.now) (F.gives folder.now)) (map string_bytes words.now) report.status report.text.items) }
+    ensures { IfOk result (λ report. IsReply
+        (told_by (F.lists folder.now) (F.gives folder.now))
+        (map string_bytes words.now) report.status report.text.items) }
 {
     match request_of(alloc, words)? {
         Request::Tell(text) => text_report(alloc, &text, Status::Done),
@@ -78,7 +82,9 @@ fn run_report<F: Folder>(
     folder: &F,
 ) -> Result<Report, AllocError>
     requires { IfSome request.fuel (λ fuel. fuel < 2 ^ 63) }
-    ensures { IfOk result (λ report. (words : List (List ℕ)) → AsksRun words (run_words request.entry) → IsReply (told_by (F.lists folder.now) (F.gives folder.now)) words report.status report.text.items) }
+    ensures { IfOk result (λ report. (words : List (List ℕ))
+        → AsksRun words (run_words request.entry) → IsReply
+        (told_by (F.lists folder.now) (F.gives folder.now)) words report.status report.text.items) }
 {
     let files = match class_files(alloc, folder, request.folder)? {
         Ok(files) => files,
@@ -95,7 +101,9 @@ fn run_report<F: Folder>(
 }
 
 fn check_report<F: Folder>(alloc: Global, path: &str, folder: &F) -> Result<Report, AllocError>
-    ensures { IfOk result (λ report. (words : List (List ℕ)) → AsksCheck words path.now → IsReply (told_by (F.lists folder.now) (F.gives folder.now)) words report.status report.text.items) }
+    ensures { IfOk result (λ report. (words : List (List ℕ)) → AsksCheck words path.now
+        → IsReply
+        (told_by (F.lists folder.now) (F.gives folder.now)) words report.status report.text.items) }
 {
     let files = match class_files(alloc, folder, path)? {
         Ok(files) => files,
@@ -112,7 +120,9 @@ fn sim_report<F: Folder>(
     request: &SimRequest,
     folder: &F,
 ) -> Result<Report, AllocError>
-    ensures { IfOk result (λ report. (words : List (List ℕ)) → AsksSim words (sim_words request.now) → IsReply (told_by (F.lists folder.now) (F.gives folder.now)) words report.status report.text.items) }
+    ensures { IfOk result (λ report. (words : List (List ℕ))
+        → AsksSim words (sim_words request.now) → IsReply
+        (told_by (F.lists folder.now) (F.gives folder.now)) words report.status report.text.items) }
 {
     let files = match class_files(alloc, folder, request.folder)? {
         Ok(files) => files,
@@ -172,7 +182,8 @@ pub fn class_files<F: Folder>(
     folder: &F,
     path: &str,
 ) -> Result<Result<Vec<ClassBytes>, FolderFault>, AllocError>
-    ensures { IfOk result (λ told. IfOk told (λ files. AreFilesOf (told_by (F.lists folder.now) (F.gives folder.now)) path.now files.items)) }
+    ensures { IfOk result (λ told. IfOk told (λ files. AreFilesOf
+        (told_by (F.lists folder.now) (F.gives folder.now)) path.now files.items)) }
 {
     match folder.paths(path) {
         Ok(paths) => Ok(Ok(read_contents(alloc, folder, paths)?)),

@@ -146,7 +146,8 @@ pub fn accepted_report(alloc: Global, files: usize) -> Result<Report, AllocError
 /// Returns the report of a folder whose files cannot be listed, or of a path that leads to none.
 pub fn folder_report(alloc: Global, fault: FolderFault) -> Result<Report, AllocError>
     ensures status { IfOk result (λ report. report.status ≡ Status.Failed) }
-    ensures text { IfOk result (λ report. (path : List ℕ) × TellsUnreadable path report.text.items) }
+    ensures text { IfOk result (λ report. (path : List ℕ)
+        × TellsUnreadable path report.text.items) }
 {
     match fault {
         FolderFault::CannotRead(path) => unreadable_report(alloc, &path),
