@@ -4,8 +4,9 @@
 #![tactic(auto)]
 
 pub use callees::Callees;
-pub use moves::move_on;
+pub use calls::{
+    call_interface, call_static, call_virtual, return_int, return_nothing, return_reference,
+};
 
 mod callees;
 mod calls;
-mod moves;
