@@ -15,6 +15,7 @@ pub use space_core::SpaceCore;
 
 mod checking;
 mod committing;
+mod copying;
 mod finishing;
 mod happening;
 mod lending;
