@@ -1,13 +1,16 @@
 /* Has calls of a process fail, for tests (.ci/failing.py): it stands before the C library.
    - FAIL_ALLOC=N: the N-th allocation is refused. With 0 none is, and the process says on standard error how many it made, as it ends.
-   - TORN=PATH: the device of this file fails after its bytes, where it would be at its end. */
+   - TORN=PATH: the device of this file fails after its bytes, where it would be at its end.
+   - UNSTARTED=N: the N-th thread of the process does not start. */
 typedef unsigned long size;
 extern void *__libc_malloc(size), *__libc_realloc(void *, size), *__libc_calloc(size, size);
 extern char *getenv(const char *);
+extern void *dlsym(void *, const char *);
+typedef int starter(void *, const void *, void *(*)(void *), void *);
 extern long atol(const char *), syscall(long, ...), readlink(const char *, char *, size);
 extern int dprintf(int, const char *, ...), snprintf(char *, size, const char *, ...), strcmp(const char *, const char *), *__errno_location(void);
 
-enum { SYS_READ = 0, EIO = 5, LONGEST_PATH = 4096 };
+enum { SYS_READ = 0, EIO = 5, EAGAIN = 11, LONGEST_PATH = 4096 };
 
 static long made, refused = -1;
 
@@ -45,4 +48,13 @@ long read(int file, void *to, size most) {
         return -1;
     }
     return count;
+}
+
+int pthread_create(void *thread, const void *how, void *(*run)(void *), void *with) {
+    static long asked;
+    const char *unstarted = getenv("UNSTARTED");
+    void *next = (void *)-1;
+    if (unstarted && __atomic_add_fetch(&asked, 1, __ATOMIC_SEQ_CST) == atol(unstarted))
+        return EAGAIN;
+    return ((starter *)dlsym(next, "pthread_create"))(thread, how, run, with);
 }

@@ -1,4 +1,4 @@
-"""Programs whose allocations or devices fail: a library that stands before the C library (failing.c), compiled by the kit's own compiler."""
+"""Programs whose allocations, devices or threads fail: a library that stands before the C library (failing.c), compiled by the kit's own compiler."""
 import os
 import pathlib
 import subprocess
@@ -19,5 +19,5 @@ def library(room):
 
 def environment(path, **calls):
     """Returns the environment of a process whose calls fail so: FAIL_ALLOC=N refuses its N-th allocation, TORN=PATH has that file's device fail after
-    its bytes."""
+    its bytes, UNSTARTED=N has its N-th thread not start."""
     return {**os.environ, "LD_PRELOAD": path, **calls}

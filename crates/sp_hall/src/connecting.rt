@@ -121,7 +121,7 @@ fn known<R: Host, S: Served + Drop, G: Gate>(rt: &R, hall: &Hall<S, G>, peer: Uu
     }
 }
 
-// Starts the thread of a dial.
+// Starts the thread of a dial. One that the system does not start is a dial that the peer refused.
 fn start_dial<'s, E, R: Host, S: Served + Drop + Send, G: Gate + Sync>(
     rt: &'s R,
     scope: &'s Scope<'s, E>,
@@ -132,8 +132,8 @@ where
     S::Apart: Send,
 {
     let is_started = scope.spawn(move || dial(rt, hall, index)).is_ok();
-    if !is_started {
-        hall.fail(rt, Fault::Memory);
+    if !is_started && let Some(peer) = hall.peer_at(Some(index)) {
+        let _ = hall.on(rt, &Event::Refused { peer });
     }
 }
 
@@ -183,10 +183,12 @@ where
     if let Some(link) = opened
         && start_threads(rt, scope, hall, &link).is_err()
     {
-        hall.fail(rt, Fault::Memory);
+        forget(rt, hall, &link);
     }
 }
 
+// Starts the writing thread of a connection, and then the reading one. An error if one of them does not start: then no
+// thread reads.
 fn start_threads<'s, E, R: Host, S: Served + Drop + Send, G: Gate + Sync>(
     rt: &'s R,
     scope: &'s Scope<'s, E>,
@@ -196,15 +198,23 @@ fn start_threads<'s, E, R: Host, S: Served + Drop + Send, G: Gate + Sync>(
 where
     S::Apart: Send,
 {
-    let reading = Arc::try_clone(link)?;
     let writing = Arc::try_clone(link)?;
-    let is_reading = scope.spawn(move || read_all(rt, hall, reading)).is_ok();
+    let reading = Arc::try_clone(link)?;
     let is_writing = scope.spawn(move || write_all(rt, hall, &writing)).is_ok();
-    if is_reading && is_writing {
+    if is_writing && scope.spawn(move || read_all(rt, hall, reading)).is_ok() {
         Ok(())
     } else {
         Err(AllocError)
     }
+}
+
+// Ends a connection that no thread reads, as its reading thread would: serving goes on for all others.
+fn forget<R: Host, S: Served + Drop, G: Gate>(rt: &R, hall: &Hall<S, G>, link: &Link) {
+    let conn = link.conn;
+    if link.end(rt) {
+        let _ = hall.on(rt, &Event::ReadFailed { conn });
+    }
+    hall.board.lock(rt).links.remove(conn);
 }
 
 // The reading thread: each frame is an event, and so is the end. At the end the connection is forgotten.

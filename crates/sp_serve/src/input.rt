@@ -8,7 +8,8 @@ use sp_links::Host;
 use sp_world::{CoreFault, Event};
 use space_ids::{Row, Uuid};
 use std::alloc::Global;
-use std::io::BufRead;
+use std::io;
+use std::io::{BufRead, ErrorKind};
 
 // The name that a line of a script has for its space.
 const HERE: &str = "here";
@@ -22,14 +23,26 @@ pub(crate) enum Ending {
     BadLine(u64),
     /// An object that was to be bound was not made: what came of it was told.
     Unbound,
-    /// Memory ran out, or the input cannot be read.
+    /// A read of the input failed.
+    Unreadable,
+    /// Memory ran out.
     Memory,
 }
 
-/// Obeys the lines of an input, until it ends, a line is bad, or serving stops.
+// Why obeying ends where a line cannot be read.
+fn ending_of(error: &io::Error) -> Ending {
+    match error.kind() {
+        ErrorKind::OutOfMemory => Ending::Memory,
+        _ => Ending::Unreadable,
+    }
+}
+
+/// Obeys the lines of an input, until it ends or cannot be read, a line is bad, or serving stops. What came of a line before a
+/// read failed is no line. `fuel` is the most of a root.
 pub(crate) fn obey_all<R: Host, S: Served + Drop, G: Gate, I: BufRead>(
     rt: &R,
     hall: &Hall<S, G>,
+    fuel: u64,
     input: &mut I,
 ) -> Ending {
     let mut line = Vec::new(hall.alloc);
@@ -38,12 +51,12 @@ pub(crate) fn obey_all<R: Host, S: Served + Drop, G: Gate, I: BufRead>(
         match input.read_until(b'\n', &mut line) {
             Ok(0) => return Ending::Done,
             Ok(_) => {}
-            Err(_) => return Ending::Memory,
+            Err(error) => return ending_of(&error),
         }
         if hall.board.lock(rt).is_stopped {
             return Ending::Done;
         }
-        match obey(rt, hall, &line) {
+        match obey(rt, hall, fuel, &line) {
             Ok(()) => {}
             Err(PlayFault::Bad) => return Ending::BadLine(number),
             Err(PlayFault::Memory) => return Ending::Memory,
@@ -56,6 +69,7 @@ pub(crate) fn obey_all<R: Host, S: Served + Drop, G: Gate, I: BufRead>(
 fn obey<R: Host, S: Served + Drop, G: Gate>(
     rt: &R,
     hall: &Hall<S, G>,
+    fuel: u64,
     line: &[u8],
 ) -> Result<(), PlayFault> {
     let line = line.strip_suffix(b"\n").unwrap_or(line);
@@ -68,7 +82,7 @@ fn obey<R: Host, S: Served + Drop, G: Gate>(
     };
     let mut guard = hall.board.lock(rt);
     let board = &mut *guard;
-    let obeyed = obey_command(rt, hall.alloc, board, &command);
+    let obeyed = obey_command(rt, hall.alloc, board, fuel, &command);
     let due = board.take_due();
     drop(guard);
     hall.attend(rt, due);
@@ -101,6 +115,7 @@ fn obey_command<R: Host, S: Served + Drop>(
     rt: &R,
     alloc: Global,
     board: &mut Board<S>,
+    most: u64,
     command: &Command<'_>,
 ) -> Result<(), PlayFault> {
     match command {
@@ -111,7 +126,15 @@ fn obey_command<R: Host, S: Served + Drop>(
             class,
             method,
             arguments,
-        } => root(rt, board, variable, *fuel, class, method, arguments),
+        } => root(
+            rt,
+            board,
+            variable,
+            fuel.units(most),
+            class,
+            method,
+            arguments,
+        ),
         Command::Lookup {
             space: _,
             peer,

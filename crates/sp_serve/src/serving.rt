@@ -78,8 +78,9 @@ impl<S: Served + Drop, G: Gate, O> Station<S, G, O> {
     }
 }
 
-/// Serves a space at its listener, until the input ends. Returns the status: 0, or 3 if a line is bad, an object
-/// that is to be bound cannot be made, memory ran out, or the output failed. All threads are joined.
+/// Serves a space at its listener, until the input ends. Returns the status: 0, or 3 if a line is bad, a read of the
+/// input fails, an object that is to be bound cannot be made, memory ran out, or the output failed. All threads are
+/// joined.
 ///
 /// The output gets a line for the address, for each object that is bound, for each that is withdrawn, and for each
 /// root and look-up of the input as it ends; `err` what is wrong.
@@ -146,7 +147,7 @@ fn obey_plan<R: Host, S: Served + Drop, G: Gate, O, I: BufRead>(
         }
     }
     hall.board.lock(rt).tell_ends();
-    obey_all(rt, hall, input)
+    obey_all(rt, hall, station.fuel, input)
 }
 
 fn tell_address<R: Host, S: Served + Drop, G: Gate>(
@@ -217,7 +218,8 @@ pub(crate) fn has_not_ended<S: Served + Drop>(board: &Board<S>, name: &str) -> b
     }
 }
 
-// Binds the object that the task of a variable returned, and lets its result go. Returns whether it returned one.
+// Binds the object that the task of a variable returned, and lets its result go. Returns whether it returned one, and the
+// space took the name.
 fn end_export<R: Host, S: Served + Drop>(
     rt: &R,
     alloc: Global,
@@ -229,7 +231,11 @@ fn end_export<R: Host, S: Served + Drop>(
         return Ok(false);
     };
     let word = Row::new(name.as_bytes().to_vec(alloc)?);
-    let _ = board.on(rt, &Event::Bind { name: word, value });
+    match board.on(rt, &Event::Bind { name: word, value }) {
+        Ok(()) => {}
+        Err(CoreFault::Memory) => return Err(PlayFault::Memory),
+        Err(_) => return Ok(false),
+    }
     if let Some(variable) = board.variables.find(name) {
         let task = variable.key.task;
         let _ = board.on(rt, &Event::RootAck(task));
@@ -271,6 +277,10 @@ fn status<R: Host, S: Served + Drop, G: Gate, E: Write>(
     match (ending, fault) {
         (Ending::BadLine(number), _) => {
             let _ = writeln!(err, "line {number}: bad");
+            3
+        }
+        (Ending::Unreadable, _) => {
+            let _ = writeln!(err, "cannot read standard input");
             3
         }
         (Ending::Memory, _) | (_, Some(Fault::Memory)) => {

@@ -2,6 +2,7 @@
 
 use clap::error::ErrorKind;
 use clap::{Arg, ArgAction, ArgMatches, Command, Error};
+use registry_names::is_name;
 use sp_arguments::argument_of;
 use sp_serve::Peer;
 use space_ids::Uuid;
@@ -95,10 +96,14 @@ fn refuse_words<'a>(alloc: Global, error: &Error) -> Result<Invocation<'a>, Allo
 
 const FOLDER: &str = "The folder whose files *.class, in it and below it, are the class set";
 
+const EXPLAIN_HELP: &str =
+    "With --explain, lines below a refusal say what it means, and what to change.";
+
 fn serve_words<'a>(alloc: Global) -> Result<Command<'a>, AllocError> {
     Command::new(alloc, "serve")
         .bin_name("rmispace serve")?
         .about("Serves a space over TCP, and obeys the lines of its input until that ends")
+        .after_help(EXPLAIN_HELP)
         .arg(required_word(alloc, "folder", "FOLDER", FOLDER))?
         .arg(required_word(alloc, "id", "UUID", "The id of the space").long("id"))?
         .arg(required_word(
@@ -133,6 +138,7 @@ fn call_words<'a>(alloc: Global) -> Result<Command<'a>, AllocError> {
     Command::new(alloc, "call")
         .bin_name("rmispace call")?
         .about("Calls an object of a space that is served: a space for one call")
+        .after_help(EXPLAIN_HELP)
         .arg(required_word(alloc, "folder", "FOLDER", FOLDER))?
         .arg(required_word(
             alloc,
@@ -216,13 +222,13 @@ fn serve_request<'a>(alloc: Global, found: &ArgMatches<'a>) -> Result<Invocation
     let Some(fuel) = fuel_of(found.get_str("fuel")) else {
         return refuse(alloc, NO_FUEL, "");
     };
-    let peers = match peers_of(alloc, found.get_strs("peer").unwrap_or(&[]))? {
+    let peers = match peers_of(alloc, &own, found.get_strs("peer").unwrap_or(&[]))? {
         Ok(peers) => peers,
-        Err(word) => return refuse(alloc, NO_PEER, word),
+        Err(Mistake { why, word }) => return refuse(alloc, why, word),
     };
     let bound = match bound_of(alloc, found.get_strs("bind").unwrap_or(&[]))? {
         Ok(bound) => bound,
-        Err(word) => return refuse(alloc, "this is no NAME=CLASS", word),
+        Err(Mistake { why, word }) => return refuse(alloc, why, word),
     };
     Ok(Invocation::Run(SpaceRequest {
         folder,
@@ -251,9 +257,12 @@ fn call_request<'a>(alloc: Global, found: &ArgMatches<'a>) -> Result<Invocation<
     let Some(callee) = peer_of(peer) else {
         return refuse(alloc, NO_PEER, peer);
     };
-    let id = match id_of(found.get_str("id")) {
+    if !is_name(name.as_bytes()) {
+        return refuse(alloc, NO_NAME, name);
+    }
+    let id = match id_of(&callee, found.get_str("id")) {
         Ok(id) => id,
-        Err(word) => return refuse(alloc, NO_UUID, word),
+        Err(Mistake { why, word }) => return refuse(alloc, why, word),
     };
     let Some(fuel) = fuel_of(found.get_str("fuel")) else {
         return refuse(alloc, NO_FUEL, "");
@@ -282,7 +291,16 @@ const NO_UUID: &str = "this is no UUID";
 
 const NO_PEER: &str = "this is no UUID=ADDR";
 
+const NO_NAME: &str = "this is no name of 1 to 255 ASCII letters, digits, _ and .";
+
 const NO_FUEL: &str = "the fuel is a whole number from 0 to 9223372036854775807";
+
+// What is wrong with a word.
+#[derive(Clone, Copy)]
+struct Mistake<'a> {
+    why: &'static str,
+    word: &'a str,
+}
 
 fn refuse<'a>(alloc: Global, why: &str, word: &str) -> Result<Invocation<'a>, AllocError> {
     if word.is_empty() {
@@ -314,13 +332,17 @@ fn fuel_of(word: Option<&str>) -> Option<u64> {
     }
 }
 
-// The id that a word says, if one is said, or the word that says none.
-fn id_of(word: Option<&str>) -> Result<Option<Uuid>, &str> {
+// The id that a word says, if one is said. It is not the peer's.
+fn id_of<'a>(peer: &Peer, word: Option<&'a str>) -> Result<Option<Uuid>, Mistake<'a>> {
     match word {
         None => Ok(None),
         Some(word) => match Uuid::parse_str(word) {
+            Ok(id) if id == peer.id => Err(Mistake {
+                why: "the peer has this id",
+                word,
+            }),
             Ok(id) => Ok(Some(id)),
-            Err(_) => Err(word),
+            Err(_) => Err(Mistake { why: NO_UUID, word }),
         },
     }
 }
@@ -340,19 +362,28 @@ fn arguments_of<'a>(
     Ok(Ok(arguments))
 }
 
-// The peers that words name, or the first that names none.
+// The peers that words name, or the first word at fault: one that names none, this space, or a peer once more.
 fn peers_of<'a>(
     alloc: Global,
+    own: &Uuid,
     words: &[&'a str],
-) -> Result<Result<Vec<Peer>, &'a str>, AllocError> {
+) -> Result<Result<Vec<Peer>, Mistake<'a>>, AllocError> {
     let mut peers = Vec::new(alloc);
     for word in words {
-        match peer_of(word) {
-            Some(peer) => peers.push(peer)?,
-            None => return Ok(Err(word)),
+        let Some(peer) = peer_of(word) else {
+            return Ok(Err(Mistake { why: NO_PEER, word }));
+        };
+        if peer.id == *own || is_known(&peers, &peer.id) {
+            let why = "a peer has one address, and another id than this space";
+            return Ok(Err(Mistake { why, word }));
         }
+        peers.push(peer)?;
     }
     Ok(Ok(peers))
+}
+
+fn is_known(peers: &[Peer], id: &Uuid) -> bool {
+    peers.iter().any(|peer| peer.id == *id)
 }
 
 fn peer_of(word: &str) -> Option<Peer> {
@@ -363,17 +394,30 @@ fn peer_of(word: &str) -> Option<Peer> {
     }
 }
 
-// The names and classes of words, or the first word that has none.
+// The names and classes of words, or the first word at fault: one that has none, or a name once more.
 fn bound_of<'a>(
     alloc: Global,
     words: &[&'a str],
-) -> Result<Result<Vec<(&'a str, &'a str)>, &'a str>, AllocError> {
+) -> Result<Result<Vec<(&'a str, &'a str)>, Mistake<'a>>, AllocError> {
     let mut bound = Vec::new(alloc);
     for word in words {
-        match word.split_once('=') {
-            Some(pair) => bound.push(pair)?,
-            None => return Ok(Err(word)),
+        let Some((name, class)) = word.split_once('=') else {
+            let why = "this is no NAME=CLASS";
+            return Ok(Err(Mistake { why, word }));
+        };
+        if !is_name(name.as_bytes()) {
+            let word = name;
+            return Ok(Err(Mistake { why: NO_NAME, word }));
         }
+        if is_bound(&bound, name) {
+            let why = "a name is bound once";
+            return Ok(Err(Mistake { why, word }));
+        }
+        bound.push((name, class))?;
     }
     Ok(Ok(bound))
+}
+
+fn is_bound(bound: &[(&str, &str)], name: &str) -> bool {
+    bound.iter().any(|(other, _)| *other == name)
 }
