@@ -6,7 +6,7 @@
 | `folder` | begins a new, empty folder |
 | `with FILE` | plays the lines of this file, which stands beside the rows |
 | `file PATH sum`, `file PATH empty`, `file PATH zeros N` | adds a file: the class T of examples/sum, no bytes, or N zeros |
-| `file PATH absent` | adds a file that is listed and cannot be opened: a link to nothing |
+| `file PATH absent`, `file PATH pipe` | adds a file that is listed and cannot be opened, a link to nothing; a pipe, of which nothing comes |
 | `torn` | the device of the last file fails after its bytes |
 | `class PATH NAME` | adds a class file. The lines below it are what its bytes say, for the reader |
 | `flags`, `extends`, `implements`, `field`, `abstract`, `method`, `code`, `\\| LINE` | the flags of that class, its superclass, its superinterfaces and members, and the code of a method, as `javap` shows it |
@@ -22,22 +22,24 @@
 | `@ WORDS` | runs it in crates/rmispace/data |
 | `out TEXT`, `err TEXT`, `status N` | what the run above owes: a line of its standard output, of its standard error, its status |
 | `unended TEXT` | the last line of its standard output, which does not end |
+| `wrote PATH`, then `= LINE` | the run above owes a file in the folder, which has these lines; of a file without lines only that it is there |
 
 A class is public and below java/lang/Object if its lines say no other. A `field` has flags, name, descriptor and the value of its
 ConstantValue, if it has one. A method has flags, name and descriptor; then `method` has the limits of operands and of local
 variables, the bytes of its code, and those of its StackMapTable, if it has one; `code` has the same without the code, whose lines
-follow. Flags and bytes are in hex, other numbers decimal. Single spaces part words.
+follow. Flags and bytes are in hex, other numbers decimal. Single spaces part words. In the PATH of a `file`, `%ff` stands for a byte.
 """
 import dataclasses
 import os
 import pathlib
 import subprocess
 import sys
+import urllib.parse
 
 TOP = pathlib.Path(__file__).resolve().parent.parent
 SUM = TOP / "examples" / "sum" / "T.class"
 # What a file of a folder can be in place of its bytes.
-ABSENT = "absent"
+ABSENT, PIPE = "absent", "pipe"
 OF_A_CLASS = {"flags", "extends", "implements", "field", "abstract", "method", "code", "|"}
 
 
@@ -58,17 +60,28 @@ class Run:
     room: int | None = None
     torn: str | None = None
     owed: dict = dataclasses.field(default_factory=lambda: {"out": "", "err": "", "status": ""})
+    written: dict = dataclasses.field(default_factory=dict)
 
     def answer(self):
-        """What it owes: standard output, standard error, status."""
-        return self.owed["out"], self.owed["err"], self.owed["status"]
+        """What it owes: standard output, standard error, status, and files."""
+        return self.owed["out"], self.owed["err"], self.owed["status"], self.written
+
+    def read_written(self, folder):
+        """Returns the files that it owes as they are in a folder: None for one that is not there."""
+        found = {}
+        for path, owed in self.written.items():
+            at = folder / path
+            found[path] = None if not at.is_file() else at.read_text() if owed else owed
+        return found
 
     def write_folder(self, folder):
         """Writes the files of its folder."""
         for path, content in self.files.items():
             at = folder / path
             at.parent.mkdir(parents=True, exist_ok=True)
-            if isinstance(content, str):
+            if content == PIPE:
+                os.mkfifo(at)
+            elif isinstance(content, str):
                 at.symlink_to("nothing")
             else:
                 at.write_bytes(content)
@@ -112,6 +125,10 @@ class Rows:
             self.runs[-1].owed["out"] += rest
         elif kind == "status":
             self.runs[-1].owed["status"] = rest
+        elif kind == "wrote":
+            self.runs[-1].written[rest] = ""
+        elif kind == "=":
+            self.runs[-1].written[next(reversed(self.runs[-1].written))] += rest + "\n"
         elif kind == "folder":
             self.begin_folder()
         elif kind == "with":
@@ -145,8 +162,8 @@ class Rows:
         self.last, self.is_script = path, is_script
 
     def begin_file(self, path, kind, *count):
-        contents = {"empty": lambda: b"", "zeros": lambda: bytes(int(count[0])), "sum": SUM.read_bytes, ABSENT: lambda: ABSENT}
-        self.begin(path, contents[kind]())
+        contents = {"empty": lambda: b"", "zeros": lambda: bytes(int(count[0])), "sum": SUM.read_bytes, ABSENT: lambda: ABSENT, PIPE: lambda: PIPE}
+        self.begin(os.fsdecode(urllib.parse.unquote_to_bytes(path)), contents[kind]())
 
     def add_line(self, text):
         """Adds a line to a script. A line of code stands for the reader alone."""

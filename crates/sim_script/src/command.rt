@@ -1,5 +1,35 @@
 //! Commands of a script.
 
+use std::fmt;
+
+/// The fuel of a root.
+#[derive(Clone, Copy, PartialEq, Eq)]
+pub enum RootFuel {
+    /// So many instructions, below 2^63.
+    Units(u64),
+    /// As many as the space allows.
+    Most,
+}
+
+impl RootFuel {
+    /// How many instructions these are in a space that allows so many.
+    pub fn units(self, most: u64) -> u64 {
+        match self {
+            RootFuel::Units(units) => units,
+            RootFuel::Most => most,
+        }
+    }
+}
+
+impl fmt::Debug for RootFuel {
+    fn fmt<W: fmt::Write>(&self, f: &mut fmt::Formatter<W>) -> fmt::Result {
+        match self {
+            RootFuel::Units(units) => write!(f, "{units}"),
+            RootFuel::Most => f.write_str("-"),
+        }
+    }
+}
+
 /// What happens between a space that dialled and its peer.
 #[derive(Clone, Copy, Debug, PartialEq, Eq)]
 pub enum Between {
@@ -22,11 +52,11 @@ pub enum Between {
 pub enum Command<'a> {
     /// There is a space.
     Space(&'a str),
-    /// A root starts in a space: a static method with arguments and fuel, below 2^63.
+    /// A root starts in a space: a static method with arguments and fuel.
     Root {
         space: &'a str,
         variable: &'a str,
-        fuel: u64,
+        fuel: RootFuel,
         class: &'a str,
         method: &'a str,
         arguments: Vec<&'a str>,

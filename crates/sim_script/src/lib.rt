@@ -5,7 +5,7 @@
 //! |---|---|
 //! | an empty one | nothing |
 //! | `space S` | there is a space of this name |
-//! | `root S VAR FUEL CLASS METHOD ARG ..` | a root starts, and VAR names what it returns |
+//! | `root S VAR FUEL CLASS METHOD ARG ..` | a root starts, and VAR names what it returns; FUEL is a number, or `-` for the most |
 //! | `ack S VAR` | the result of VAR is let go |
 //! | `bind S NAME VAR`, `rebind S NAME VAR`, `unbind S NAME` | a name is bound in the registry of a space |
 //! | `lookup S T NAME VAR` | S asks T what it has bound to a name |
@@ -19,7 +19,7 @@
 //! Single spaces part the words of a line.
 #![tactic(auto)]
 
-pub use command::{Between, Command};
+pub use command::{Between, Command, RootFuel};
 pub use fault::LineFault;
 pub use line::read_line;
 

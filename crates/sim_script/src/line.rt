@@ -1,6 +1,6 @@
 //! Lines of a script.
 
-use super::{Between, Command, LineFault};
+use super::{Between, Command, LineFault, RootFuel};
 use std::alloc::Global;
 
 /// Returns what a line says, and `None` for an empty one. `LineFault::Bad` for a word that is none of a
@@ -46,10 +46,7 @@ fn root_of<'a>(alloc: Global, space: &'a str, rest: &[&'a str]) -> Result<Comman
     let [variable, fuel, class, method, arguments @ ..] = rest else {
         return Err(LineFault::Bad);
     };
-    let fuel = number_of(fuel)?;
-    if fuel > i64::MAX as u64 {
-        return Err(LineFault::Bad);
-    }
+    let fuel = fuel_of(fuel)?;
     Ok(Command::Root {
         space,
         variable: *variable,
@@ -58,6 +55,18 @@ fn root_of<'a>(alloc: Global, space: &'a str, rest: &[&'a str]) -> Result<Comman
         method: *method,
         arguments: arguments.to_vec(alloc)?,
     })
+}
+
+// The fuel that a word says: `-` is as much as there may be.
+fn fuel_of(word: &str) -> Result<RootFuel, LineFault> {
+    if word == "-" {
+        return Ok(RootFuel::Most);
+    }
+    let units = number_of(word)?;
+    if units > i64::MAX as u64 {
+        return Err(LineFault::Bad);
+    }
+    Ok(RootFuel::Units(units))
 }
 
 // What names names or variables.

@@ -1,13 +1,13 @@
 //! A space with the program that its tasks run, as scripts play it.
 
-ghost use Rattle.std.specs.Prelude.{◌≡◌, ◌⊎◌, [], None, Some, IfOk, option_map, slice_get};
+ghost use Rattle.std.specs.Prelude.{◌≡◌, ◌⊎◌, [], None, Some, Contains, IfOk, option_map, slice_get};
 ghost use Rattle.cls_set.specs.Classes.{name_at};
 ghost use Rattle.sp_space.specs.Spaces.{IsSpace};
 ghost use Rattle.sp_rules.specs.Classes.{Setting};
 ghost use Rattle.sp_rules.specs.State.{State, standing};
-ghost use Rattle.sp_files.specs.Names.{NamesMethod};
 ghost use Rattle.sp_core.specs.Shown.{lowest_ready, shown};
-ghost use Rattle.sim_spaces.specs.ProgramSpaces.{shown_of};
+ghost use Rattle.sp_files.specs.Names.{NamesMethod};
+ghost use Rattle.sim_spaces.specs.ProgramSpaces.{played_limits, shown_of};
 
 use crate::names::{class_name_of, method_of, shown_as};
 use sim_worlds::{Named, ScriptSpace, Shown};
@@ -17,6 +17,7 @@ use sp_space::Space;
 use sp_world::WorldSpace;
 use space_ids::{ClassId, Uuid, Value};
 use std::alloc::Global;
+use vm_step::Limits;
 
 /// A space with the program that its tasks run, as scripts play it.
 #[derive(Drop)]
@@ -53,7 +54,8 @@ impl<'p> WorldSpace for ProgramSpace<'p> {
 
 impl<'p> Named for ProgramSpace<'p> {
     fn method(&self, class: &str, method: &str) -> Result<u32, CoreFault>
-        ensures { IfOk result (λ number. NamesMethod self.now.space.program.now class.now method.now (Some (record { 0 = number }))) }
+        ensures { Contains method.now 40 → IfOk result (λ number. NamesMethod
+            self.now.space.program.now class.now method.now (Some (record { 0 = number }))) }
     {
         method_of(self.alloc, self.space.program(), class, method)
     }
@@ -83,5 +85,11 @@ impl<'p> ScriptSpace for ProgramSpace<'p> {
             ≡ lowest_ready [] s }
     {
         self.space.ready()
+    }
+
+    fn most_fuel(&self) -> u64
+        ensures { result ≡ played_limits.fuel }
+    {
+        Limits::default().fuel
     }
 }

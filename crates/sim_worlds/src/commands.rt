@@ -2,7 +2,7 @@
 
 use crate::script_run::ScriptRun;
 use crate::{PlayFault, ScriptSpace};
-use sim_script::{Between, Command};
+use sim_script::{Between, Command, RootFuel};
 use sp_world::{Dial, End, Event, WorldEvent};
 use space_ids::Row;
 
@@ -42,7 +42,7 @@ impl<S: ScriptSpace + Drop> ScriptRun<S> {
         &mut self,
         space: &str,
         variable: &str,
-        fuel: u64,
+        fuel: RootFuel,
         class: &str,
         method: &str,
         words: &[&str],
@@ -56,6 +56,7 @@ impl<S: ScriptSpace + Drop> ScriptRun<S> {
             Ok(method) => method,
             Err(fault) => return PlayFault::of_root(fault).map_or(Ok(()), Err),
         };
+        let fuel = fuel.units(played.most_fuel());
         let event = WorldEvent::Root {
             space: number,
             method,
@@ -63,7 +64,7 @@ impl<S: ScriptSpace + Drop> ScriptRun<S> {
             fuel,
         };
         match self
-            .begin(variable, number, event)?
+            .begin("root", variable, number, event)?
             .and_then(PlayFault::of_root)
         {
             Some(fault) => Err(fault),
@@ -87,7 +88,7 @@ impl<S: ScriptSpace + Drop> ScriptRun<S> {
             event: Event::Lookup { peer, name },
         };
         match self
-            .begin(variable, number, event)?
+            .begin("lookup", variable, number, event)?
             .and_then(PlayFault::of_lookup)
         {
             Some(fault) => Err(fault),
@@ -129,7 +130,7 @@ impl<S: ScriptSpace + Drop> ScriptRun<S> {
             }
             _ => {}
         }
-        let Some(conn) = self.connections.newest(dialler, dialled) else {
+        let Some(conn) = self.connections.newest(dial) else {
             return Ok(());
         };
         if let Some(event) = event_on(conn, event) {

@@ -8,13 +8,14 @@
 #![tactic(auto)]
 
 pub use fault::{PlayFault, ScriptFault};
-pub use script::play_script;
+pub use script::{play_recorded, play_script};
 pub use script_space::{Named, Origin, ScriptSpace, Shown, Start};
+pub use sim_happenings::ScriptRecord;
 pub use texts::{SpaceNames, put_object, put_outcome};
 pub use variables::{TaskKey, Variable, Variables, started};
 
 mod commands;
-mod connections;
+mod endings;
 mod fault;
 mod names;
 mod script;

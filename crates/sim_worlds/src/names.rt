@@ -2,8 +2,9 @@
 
 use crate::PlayFault;
 use indexmap::IndexMap;
+use sim_happenings::ScriptRecord;
 use space_ids::Uuid;
-use std::alloc::Global;
+use std::alloc::{AllocError, Global};
 
 // The names, in the order of the lines that say them: the number of a space is the index of its name.
 #[derive(Drop)]
@@ -48,12 +49,27 @@ impl Names {
 
     // The name of the space of an id: empty if it is none of the script's.
     pub fn of(&self, id: &Uuid) -> &str {
-        for (name, own) in self.rows.iter() {
-            if own == id {
-                return name.as_str();
-            }
+        let (_, number) = id.as_u64_pair();
+        match self.rows.get_index((number as usize).saturating_sub(1)) {
+            Some((name, own)) if own == id => name.as_str(),
+            _ => "",
         }
-        ""
+    }
+
+    // The name of a space.
+    pub fn name(&self, number: usize) -> &str {
+        match self.rows.get_index(number) {
+            Some((name, _)) => name.as_str(),
+            None => "",
+        }
+    }
+
+    // Enters all into a record.
+    pub fn enter_all(&self, record: &mut ScriptRecord) -> Result<(), AllocError> {
+        for number in 0..self.len() {
+            record.enter(self.name(number))?;
+        }
+        Ok(())
     }
 
     // How many spaces there are.

@@ -3,8 +3,10 @@
 use crate::names::Names;
 use crate::script_run::ScriptRun;
 use crate::{Origin, PlayFault, ScriptFault, ScriptSpace};
+use sim_happenings::ScriptRecord;
 use sim_script::{Command, read_line};
 use std::alloc::{AllocError, Global};
+use std::mem;
 
 /// Plays a script over a world of spaces that `origin` makes, and returns the lines that it shows. Its
 /// lines are parted by newlines. `ScriptFault::BadLine` for the first line that is bad.
@@ -17,7 +19,52 @@ pub fn play_script<S: ScriptSpace + Drop, O: Origin<S>>(
     let mut names = Names::new(alloc);
     let first = read_names(alloc, &lines, &mut names)?;
     let script_run = begin(alloc, origin, names)?;
-    play_lines(alloc, script_run, &lines, first)
+    let mut none = ScriptRecord::new(alloc, false);
+    play_lines(alloc, script_run, &lines, first, &mut none)
+}
+
+/// The same, and keeps in a record what happens, as far as that wants it, up to the first bad line if there is one.
+pub fn play_recorded<S: ScriptSpace + Drop, O: Origin<S>>(
+    alloc: Global,
+    origin: &O,
+    script: &[u8],
+    record: &mut ScriptRecord,
+) -> Result<Vec<u8>, ScriptFault> {
+    let lines = lines_of(alloc, script)?;
+    let mut names = Names::new(alloc);
+    let first = read_names(alloc, &lines, &mut names)?;
+    names.enter_all(record)?;
+    let script_run = begin(alloc, origin, names)?;
+    play_lines(alloc, script_run, &lines, first, record)
+}
+
+// Plays the lines from this index on, and returns what is shown. The record stands in the run until they are played.
+fn play_lines<S: ScriptSpace + Drop>(
+    alloc: Global,
+    script_run: ScriptRun<S>,
+    lines: &[&[u8]],
+    first: usize,
+    record: &mut ScriptRecord,
+) -> Result<Vec<u8>, ScriptFault> {
+    let mut script_run = script_run;
+    mem::swap(&mut script_run.record, record);
+    let played = play_each(alloc, &mut script_run, lines, first);
+    script_run.count_standing();
+    mem::swap(&mut script_run.record, record);
+    shown(script_run, played)
+}
+
+// What is shown of a script that was played, if it was played to its end.
+fn shown<S: ScriptSpace + Drop>(
+    script_run: ScriptRun<S>,
+    played: Result<(), ScriptFault>,
+) -> Result<Vec<u8>, ScriptFault> {
+    let text = script_run.finish();
+    match (played, text) {
+        (Ok(()), Ok(text)) => Ok(text),
+        (Ok(()), Err(_)) => Err(ScriptFault::Memory),
+        (Err(fault), _) => Err(fault),
+    }
 }
 
 // The lines of a script, which newlines part.
@@ -88,21 +135,6 @@ fn make_spaces<S: ScriptSpace + Drop, O: Origin<S>>(
     Ok(spaces)
 }
 
-// Plays the lines from this index on, and returns what is shown.
-fn play_lines<S: ScriptSpace + Drop>(
-    alloc: Global,
-    script_run: ScriptRun<S>,
-    lines: &[&[u8]],
-    first: usize,
-) -> Result<Vec<u8>, ScriptFault> {
-    let mut script_run = script_run;
-    play_each(alloc, &mut script_run, lines, first)?;
-    match script_run.finish() {
-        Ok(text) => Ok(text),
-        Err(_) => Err(ScriptFault::Memory),
-    }
-}
-
 // Plays the lines from this index on.
 fn play_each<S: ScriptSpace + Drop>(
     alloc: Global,
@@ -111,7 +143,7 @@ fn play_each<S: ScriptSpace + Drop>(
     first: usize,
 ) -> Result<(), ScriptFault> {
     for (before, line) in lines.iter().enumerate().skip(first) {
-        match play_line(alloc, script_run, line) {
+        match play_line(alloc, script_run, line, before + 1) {
             Ok(()) => {}
             Err(fault) => return Err(at_line(fault, before + 1)),
         }
@@ -127,14 +159,21 @@ fn read<'a>(alloc: Global, line: &'a [u8]) -> Result<Option<Command<'a>>, PlayFa
     Ok(read_line(alloc, text)?)
 }
 
-// Plays a line.
+// Plays the line of this number.
 fn play_line<S: ScriptSpace + Drop>(
     alloc: Global,
     script_run: &mut ScriptRun<S>,
     line: &[u8],
+    number: usize,
 ) -> Result<(), PlayFault> {
-    match read(alloc, line)? {
-        Some(command) => script_run.play(&command),
+    let Ok(text) = str::from_utf8(line) else {
+        return Err(PlayFault::Bad);
+    };
+    match read_line(alloc, text)? {
+        Some(command) => {
+            script_run.note_line(number, text)?;
+            script_run.play(&command)
+        }
         None => Ok(()),
     }
 }

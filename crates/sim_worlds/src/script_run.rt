@@ -1,48 +1,51 @@
 //! A script as it is played: what has happened, and what was shown.
 
-use crate::connections::Connections;
+use crate::endings::{Scene, keep_endings};
 use crate::names::Names;
 use crate::texts::{put_object, put_outcome};
 use crate::variables::{TaskKey, Variable, Variables, started};
 use crate::{PlayFault, ScriptSpace};
+use sim_agenda::{
+    Agenda, Occurrence, OccurrenceKind, Routes, keep_event, keep_output, keep_standing,
+    occurrence_of,
+};
+use sim_happenings::{Happening, ScriptRecord};
 use sp_promises::run;
-use sp_world::{CoreFault, Dial, Output, World, WorldEvent};
+use sp_world::{CoreFault, Dial, End, Output, World, WorldEvent};
 use space_ids::Row;
 use std::alloc::Global;
 use std::collections::VecDeque;
 use std::mem;
 
 /// A script as it is played over a world: the names of its spaces, the connections that were opened, the
-/// variables, and the lines that were shown.
+/// variables, what can happen next, the lines that were shown, and a record.
 #[derive(Drop)]
 pub(crate) struct ScriptRun<S> {
     pub(crate) alloc: Global,
     pub(crate) world: World<S>,
     pub(crate) names: Names,
-    pub(crate) connections: Connections,
+    pub(crate) connections: Routes,
     pub(crate) variables: Variables,
+    pub(crate) agenda: Agenda,
     // The connections that `settle` has opened and nobody has accepted, the oldest first.
     pub(crate) unaccepted: VecDeque<u64>,
-    // How many rows of outputs of each space were looked at.
-    told: Vec<usize>,
+    // One that was told of no space keeps nothing.
+    pub(crate) record: ScriptRecord,
     text: Vec<u8>,
 }
 
 impl<S: ScriptSpace + Drop> ScriptRun<S> {
     /// Returns a script of which only the spaces are made, whose names these are.
     pub fn new(alloc: Global, names: Names, spaces: Vec<S>) -> Result<ScriptRun<S>, PlayFault> {
-        let mut told = Vec::new(alloc);
-        for _ in 0..spaces.len() {
-            told.push(0)?;
-        }
         Ok(ScriptRun {
             alloc,
             world: World::new(alloc, spaces)?,
             names,
-            connections: Connections::new(alloc),
+            connections: Routes::new(alloc),
             variables: Variables::new(alloc),
+            agenda: Agenda::new(alloc),
             unaccepted: VecDeque::new(alloc),
-            told,
+            record: ScriptRecord::new(alloc, false),
             text: Vec::new(alloc),
         })
     }
@@ -56,19 +59,37 @@ impl<S: ScriptSpace + Drop> ScriptRun<S> {
             names,
             connections: _,
             variables,
+            agenda: _,
             unaccepted: _,
-            told: _,
+            record: _,
             text,
         } = self;
         with_outcomes(text, &world, &names, &variables)
     }
 
-    // Lets an event happen, and notes which tasks it ended. Returns why it was refused, if it was.
-    pub(crate) fn happen(&mut self, event: WorldEvent) -> Result<Option<CoreFault>, PlayFault> {
-        self.run(event)?;
-        for space in 0..self.told.len() {
-            self.note(space)?;
+    // Keeps how many objects stand in each space.
+    pub(crate) fn count_standing(&mut self) {
+        for number in 0..self.record.names().len() {
+            if let Some(space) = self.world.space(number) {
+                keep_standing(&mut self.record, number, standing_in(space));
+            }
         }
+    }
+
+    // Notes that the line of this number is played from here on.
+    pub(crate) fn note_line(&mut self, number: usize, line: &str) -> Result<(), PlayFault> {
+        if self.record.is_traced() {
+            let text = String::from_str(self.alloc, line)?;
+            self.record.add(Happening::Line { number, text })?;
+        }
+        Ok(())
+    }
+
+    // Lets an event happen, and takes what it was answered. Returns why it was refused, if it was.
+    pub(crate) fn happen(&mut self, event: WorldEvent) -> Result<Option<CoreFault>, PlayFault> {
+        let occurrence = occurrence_of(&event, &self.connections);
+        self.run(event)?;
+        self.take_answers(occurrence)?;
         Ok(self.world.refused())
     }
 
@@ -89,10 +110,11 @@ impl<S: ScriptSpace + Drop> ScriptRun<S> {
         }
     }
 
-    // Lets a root or a look-up of a space begin, and gives its task a variable. Returns why it was refused,
-    // if it was. `PlayFault::Bad` for a variable that a line before has named, and if no task began.
+    // Lets a root or a look-up of a space, which a verb names, begin, and gives its task a variable. Returns why it
+    // was refused, if it was. `PlayFault::Bad` for a variable that a line before has named, and if no task began.
     pub(crate) fn begin(
         &mut self,
+        verb: &str,
         variable: &str,
         space: usize,
         event: WorldEvent,
@@ -108,8 +130,27 @@ impl<S: ScriptSpace + Drop> ScriptRun<S> {
             return Err(PlayFault::Bad);
         };
         self.variables.add(variable, TaskKey { space, task })?;
-        self.note(space)?;
+        self.note_beginning(verb, variable, space)?;
+        self.take_answers(Occurrence {
+            space: Some(space),
+            conn: None,
+            kind: OccurrenceKind::Begun,
+        })?;
         Ok(None)
+    }
+
+    // Keeps that the task of a variable began.
+    fn note_beginning(
+        &mut self,
+        verb: &str,
+        variable: &str,
+        space: usize,
+    ) -> Result<(), PlayFault> {
+        if self.record.is_traced() {
+            let text = format!(in self.alloc; "{verb} {variable}")?;
+            self.record.add(Happening::Begun { space, text })?;
+        }
+        Ok(())
     }
 
     // What the last event that came to a space answered.
@@ -120,20 +161,56 @@ impl<S: ScriptSpace + Drop> ScriptRun<S> {
         }
     }
 
-    // Notes what a space has answered since it was last looked at.
-    fn note(&mut self, space: usize) -> Result<(), PlayFault> {
-        let Some(rows) = self.world.outputs(space) else {
-            return Ok(());
-        };
-        let Some(told) = self.told.get_mut(space) else {
-            return Ok(());
-        };
-        if *told <= rows.len() {
-            for row in &rows[*told..] {
-                self.variables.note(space, row)?;
-            }
+    // Takes what a space answered to an event that was told to it: notes which tasks it ended, what can happen next and
+    // what a record keeps. The world lets go of it.
+    fn take_answers(&mut self, occurrence: Occurrence) -> Result<(), PlayFault> {
+        if let Some(conn) = occurrence.conn {
+            let is_queued = is_queued(&self.world, conn);
+            self.agenda.note_connection(conn, is_queued)?;
         }
-        *told = rows.len();
+        let Some(space) = occurrence.space else {
+            return Ok(());
+        };
+        self.note(space)?;
+        self.keep_answers(occurrence, space)?;
+        let is_ready = self.ready(space).is_some();
+        self.agenda.note_space(space, is_ready)?;
+        if self.world.is_settled() {
+            self.world.forget_outputs(space);
+        }
+        Ok(())
+    }
+
+    // Notes which tasks a space has ended, and on which connections it has put something.
+    fn note(&mut self, space: usize) -> Result<(), PlayFault> {
+        for row in self.world.outputs(space).unwrap_or(&[]) {
+            self.variables.note(space, row)?;
+            note_connections(&self.world, &mut self.agenda, row)?;
+        }
+        Ok(())
+    }
+
+    // Keeps what a space was told and what it answered.
+    fn keep_answers(&mut self, occurrence: Occurrence, space: usize) -> Result<(), PlayFault> {
+        let record = &mut self.record;
+        if record.names().is_empty() {
+            return Ok(());
+        }
+        let Some(played) = self.world.space(space) else {
+            return Ok(());
+        };
+        let scene = Scene {
+            alloc: self.alloc,
+            number: space,
+            space: played,
+            names: &self.names,
+            variables: &self.variables,
+        };
+        for row in self.world.outputs(space).unwrap_or(&[]) {
+            keep_event(record, space, occurrence)?;
+            keep_endings(record, &scene, row)?;
+            keep_outputs(self.alloc, record, &self.connections, space, row)?;
+        }
         Ok(())
     }
 
@@ -170,8 +247,8 @@ impl<S: ScriptSpace + Drop> ScriptRun<S> {
     pub(crate) fn open(&mut self, dial: Dial) -> Result<u64, PlayFault> {
         let conn = self.connections.len() as u64;
         let Dial { dialler, dialled } = dial;
-        let _ = self.happen(WorldEvent::Open { dialler, dialled })?;
         self.connections.add(dial)?;
+        let _ = self.happen(WorldEvent::Open { dialler, dialled })?;
         Ok(conn)
     }
 
@@ -201,6 +278,61 @@ impl<S: ScriptSpace + Drop> ScriptRun<S> {
     pub(crate) fn row(&self, name: &str) -> Result<Row<u8>, PlayFault> {
         Ok(Row::new(name.as_bytes().to_vec(self.alloc)?))
     }
+}
+
+// Keeps the outputs of a space.
+fn keep_outputs(
+    alloc: Global,
+    record: &mut ScriptRecord,
+    connections: &Routes,
+    space: usize,
+    outputs: &[Output],
+) -> Result<(), PlayFault> {
+    for output in outputs {
+        keep_output(alloc, record, connections, space, output)?;
+    }
+    Ok(())
+}
+
+// How many objects stand in a space.
+fn standing_in<S: ScriptSpace>(space: &S) -> usize {
+    for index in 0..usize::MAX {
+        if space.object(index).is_none() {
+            return index;
+        }
+    }
+    usize::MAX
+}
+
+// Notes the connections on which outputs of a space put something, or which they end.
+fn note_connections<S: ScriptSpace + Drop>(
+    world: &World<S>,
+    agenda: &mut Agenda,
+    outputs: &[Output],
+) -> Result<(), PlayFault> {
+    for output in outputs {
+        if let Some(conn) = connection_of(output) {
+            agenda.note_connection(conn, is_queued(world, conn))?;
+        }
+    }
+    Ok(())
+}
+
+// The connection on which an output puts something, or which it ends.
+fn connection_of(output: &Output) -> Option<u64> {
+    match output {
+        Output::Send { conn, .. } => Some(*conn),
+        Output::Close(conn) => Some(*conn),
+        _ => None,
+    }
+}
+
+// Whether something can be delivered on a connection.
+fn is_queued<S: ScriptSpace + Drop>(world: &World<S>, conn: u64) -> bool {
+    if !world.is_settled() {
+        return false;
+    }
+    world.queued(conn, End::Accepter) || world.queued(conn, End::Dialler)
 }
 
 // Returns the lines with one more for each variable. The world and the names are lent to it, so that they go

@@ -41,6 +41,9 @@ pub trait Named {
 pub trait ScriptSpace: WorldSpace + Named {
     /// The lowest task that may go on.
     fn ready(&self) -> Option<u64>;
+
+    /// The most fuel of a root.
+    fn most_fuel(&self) -> u64;
 }
 
 /// Makes the spaces of a script.

@@ -36,7 +36,7 @@ impl<S: ScriptSpace + Drop> ScriptRun<S> {
             let _ = self.happen(event)?;
             return Ok(true);
         }
-        if let Some(space) = self.first_ready() {
+        if let Some(space) = self.agenda.first_ready() {
             self.step(space)?;
             return Ok(true);
         }
@@ -48,31 +48,17 @@ impl<S: ScriptSpace + Drop> ScriptRun<S> {
         Ok(self.world.asked().first().copied())
     }
 
-    // The first frame that can be delivered.
+    // The first frame, or end, that can be delivered.
     fn first_delivery(&mut self) -> Option<WorldEvent> {
         if !self.world.is_settled() {
             return None;
         }
-        for number in 0..self.connections.len() {
-            let conn = number as u64;
-            if self.world.queued(conn, End::Accepter) {
-                return Some(WorldEvent::Deliver {
-                    conn,
-                    to: End::Accepter,
-                });
-            }
-            if self.world.queued(conn, End::Dialler) {
-                return Some(WorldEvent::Deliver {
-                    conn,
-                    to: End::Dialler,
-                });
-            }
-        }
-        None
-    }
-
-    // The lowest space with a task that may go on.
-    fn first_ready(&self) -> Option<usize> {
-        (0..self.names.len()).find(|space| self.ready(*space).is_some())
+        let conn = self.agenda.first_queued()?;
+        let to = if self.world.queued(conn, End::Accepter) {
+            End::Accepter
+        } else {
+            End::Dialler
+        };
+        Some(WorldEvent::Deliver { conn, to })
     }
 }

@@ -2,7 +2,11 @@
 #![tactic(auto)]
 
 pub use entry::{class_files, command};
+pub use explaining::{StartWords, explain_command, explain_folder};
+pub use showing::show_command;
 pub use sp_texts::Status;
 pub use sp_words::{Disk, Folder, FolderFault};
 
 mod entry;
+mod explaining;
+mod showing;

@@ -2,7 +2,9 @@
 #![tactic(auto)]
 
 pub use command::space_command;
+pub use explaining::{explain_ended, explain_space};
 
 mod command;
+mod explaining;
 mod exports;
 mod serving;

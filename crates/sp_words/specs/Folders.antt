@@ -1,5 +1,5 @@
 -- The paths of class files in a folder. (This project's own; POSIX 3.170 and 4.13 for names of entries.)
-use Rattle.std.specs.Prelude.{◌≡◌, ◌<◌, ◌==◌, ◌++◌, ◌∷◌, [], if◌then◌else◌, ℕ, false, List, All, codes, eqb, length, string_bytes}
+use Rattle.std.specs.Prelude.{◌≡◌, ◌⊎◌, ◌<◌, ◌==◌, ◌++◌, ◌∷◌, [], if◌then◌else◌, ℕ, false, List, All, codes, eqb, length, string_bytes}
 use Rattle.std.specs.List.{ends_with, list_any}
 use Rattle.sp_words.specs.declared.folder.Found.{Found}
 use Rattle.sp_words.specs.declared.folder.FolderFault.{FolderFault}
@@ -42,7 +42,22 @@ pub record IsClassPath (folder path : List ℕ) : Type 0 where
 abbrev pub AreBelow : List ℕ → Found → Type 0
 AreBelow folder found = All (λ path. IsClassPath folder (string_bytes path)) found.files.items × All (λ path. IsBelow folder (string_bytes path)) found.folders.items
 
--- a fault names the folder, or one below it
+-- a path is one of an entry of the folder, or of a folder below it; its name may be written in other bytes than it has
+pub record IsEntryBelow (folder path : List ℕ) : Type 0 where
+  pub parent : List ℕ
+  pub below : IsBelow folder parent
+  pub written : List ℕ
+  pub path_is : path ≡ joined parent written
+
+-- a fault names the folder, one below it, or an entry of one of these
 abbrev pub NamesBelow : List ℕ → FolderFault → Type 0
-NamesBelow folder (CannotRead path) = IsBelow folder (string_bytes path)
+NamesBelow folder (CannotRead path) = IsBelow folder (string_bytes path) ⊎ IsEntryBelow folder (string_bytes path)
 NamesBelow folder Memory = Unit {0}
+
+-- what was found stays below each folder that this one is below
+abbrev pub Keeps : (folder : List ℕ) → (old new : Found) → Type 0
+Keeps folder old new = (root : List ℕ) → IsBelow root folder → AreBelow root old → AreBelow root new
+
+-- a fault names what is below each folder that this one is below
+abbrev pub Blames : (folder : List ℕ) → FolderFault → Type 0
+Blames folder fault = (root : List ℕ) → IsBelow root folder → NamesBelow root fault

@@ -4,18 +4,20 @@
 ghost use Rattle.std.specs.Prelude.{◌≡◌, ℕ, List, String, Option, ⊤, All, IfOk, IfErr, IsTrue, OnOk, IsSorted, string_bytes};
 ghost use Rattle.std.specs.Global.{Global};
 ghost use Rattle.sp_words.specs.declared.folder.FolderFault.TheVariants as fault;
-ghost use Rattle.sp_words.specs.Folders.{AreBelow, IsBelow, IsClassPath, IsEntryName, NamesBelow, joined};
+ghost use Rattle.sp_words.specs.Folders.{AreBelow, Blames, IsClassPath, IsEntryName, Keeps, NamesBelow, joined};
 
+use shown_text::Shown;
 use std::alloc::{AllocError, AllocFailed, Global};
 use std::io::Read;
 use std::rt::Files;
-use std::{fs, io};
+use std::{fs, io, str};
 use thiserror::Error;
 
 /// Why the files of a folder cannot be listed.
 #[derive(Debug, Drop, Error)]
 pub enum FolderFault {
-    /// This folder cannot be read, or is none.
+    /// This folder cannot be read, or is none; or it has a class file whose name is no UTF-8, which the path names with
+    /// these bytes escaped.
     #[error("cannot read {0}")]
     CannotRead(String),
     #[error("no memory")]
@@ -49,7 +51,8 @@ pub trait Folder {
     ghost gives: { Self → List ℕ → Option (List ℕ) → Type 0 } = { λ _ _ _. ⊤ };
 
     /// The paths of all files in the folder, and in the folders below it, whose name ends in
-    /// `.class`: each with the folder's own path in front, in the order of their bytes.
+    /// `.class`: each with the folder's own path in front, in the order of their bytes. What is neither
+    /// a file nor a folder is passed over, and so is an entry whose name is no UTF-8, unless it ends so.
     fn paths(&self, folder: &str) -> Result<Vec<String>, FolderFault>
         ensures { IfOk result (λ paths. lists self.now folder.now paths.items) };
 
@@ -73,7 +76,7 @@ impl<'a, R: Files + AllocGlobal + Clone + Drop> Folder for Disk<'a, R> {
     fn paths(&self, folder: &str) -> Result<Vec<String>, FolderFault>
         // What the trait's clause says of it: class files of the folder, in the order of their bytes.
         ensures listed { IfOk result (λ paths. All (λ path. IsClassPath folder.now (string_bytes path)) paths.items × IsSorted ⟦<String as Ord>⟧.cmp paths.items) }
-        // A fault names the folder, or one below it.
+        // A fault names the folder, one below it, or an entry of one of these.
         ensures fault { IfErr result (NamesBelow folder.now) }
     {
         let alloc = self.runtime.alloc();
@@ -124,7 +127,7 @@ impl Found {
         is_folder: bool,
     ) -> Result<(), AllocError>
         requires { IsEntryName name.now }
-        ensures { OnOk result ((root : List ℕ) → IsBelow root folder.now → AreBelow root self.old → AreBelow root self.new) }
+        ensures { OnOk result (Keeps folder.now self.old self.new) }
     {
         if is_folder {
             self.add_folder(alloc, folder, name)
@@ -136,7 +139,7 @@ impl Found {
     // A folder has a folder of this name.
     fn add_folder(&mut self, alloc: Global, folder: &str, name: &str) -> Result<(), AllocError>
         requires { IsEntryName name.now }
-        ensures { OnOk result ((root : List ℕ) → IsBelow root folder.now → AreBelow root self.old → AreBelow root self.new) }
+        ensures { OnOk result (Keeps folder.now self.old self.new) }
     {
         let path = path_in(alloc, folder, name)?;
         self.folders.push(path)?;
@@ -146,7 +149,7 @@ impl Found {
     // A folder has a file of this name: it counts if it is a class file.
     fn add_file(&mut self, alloc: Global, folder: &str, name: &str) -> Result<(), AllocError>
         requires { IsEntryName name.now }
-        ensures { OnOk result ((root : List ℕ) → IsBelow root folder.now → AreBelow root self.old → AreBelow root self.new) }
+        ensures { OnOk result (Keeps folder.now self.old self.new) }
     {
         if name.as_bytes().ends_with(b".class") {
             let path = path_in(alloc, folder, name)?;
@@ -182,28 +185,130 @@ fn list_folder<R: Files + AllocGlobal + Clone + Drop>(
     found: &mut Found,
     folder: String,
 ) -> Result<(), FolderFault>
-    ensures found { OnOk result ((root : List ℕ) → IsBelow root (string_bytes folder) → AreBelow root found.old → AreBelow root found.new) }
-    ensures fault { IfErr result (λ fault. (root : List ℕ) → IsBelow root (string_bytes folder) → NamesBelow root fault) }
+    ensures found { OnOk result (Keeps (string_bytes folder) found.old found.new) }
+    ensures fault { IfErr result (Blames (string_bytes folder)) }
 {
-    let alloc = runtime.alloc();
     let path = folder.as_str();
-    let entries = match fs::read_dir(runtime, path) {
-        Ok(entries) => entries,
-        Err(_) => return Err(FolderFault::CannotRead(folder)),
+    let Ok(names) = read_names(runtime, path) else {
+        return Err(FolderFault::CannotRead(folder));
     };
-    for entry in entries {
-        let Ok(entry) = entry else {
-            return Err(FolderFault::CannotRead(folder));
-        };
-        let Ok(kind) = entry.file_type() else {
-            return Err(FolderFault::CannotRead(folder));
-        };
-        let name = entry.file_name();
-        // No file system gives another name; one that did would lead out of the folder.
-        if !is_entry_name(name.as_bytes()) {
-            return Err(FolderFault::CannotRead(folder));
-        }
-        found.add(alloc, path, name, kind.is_dir())?;
+    let mut name = Vec::new(runtime.alloc());
+    for byte in &names {
+        take_byte(runtime, found, path, &mut name, *byte)?;
     }
     Ok(())
+}
+
+// Takes a byte of an entry's name. A NUL ends it: the entry is listed, and the next name begins.
+fn take_byte<R: Files + AllocGlobal>(
+    runtime: &R,
+    found: &mut Found,
+    folder: &str,
+    name: &mut Vec<u8>,
+    byte: u8,
+) -> Result<(), FolderFault>
+    ensures found { OnOk result (Keeps folder.now found.old found.new) }
+    ensures fault { IfErr result (Blames folder.now) }
+{
+    if byte != 0 {
+        name.push(byte)?;
+        return Ok(());
+    }
+    list_entry(runtime, found, folder, name)?;
+    name.clear();
+    Ok(())
+}
+
+// The names of a folder's entries, each ended by a NUL. The slash makes the system follow a link to a folder. They are
+// copied by a buffer in which the longest name has room: a read with less room than a name takes fails.
+fn read_names<R: Files + AllocGlobal>(runtime: &R, folder: &str) -> io::Result<Vec<u8>> {
+    let alloc = runtime.alloc();
+    let mut path = String::from_str(alloc, folder)?;
+    if !folder.is_empty() && !folder.ends_with('/') {
+        path.push('/')?;
+    }
+    let mut names = Vec::new(alloc);
+    io::copy(&mut runtime.open_dir(path.as_str())?, &mut names)?;
+    Ok(names)
+}
+
+// Lists an entry of a folder by the bytes of its name. One that is no UTF-8 is passed over, unless it would be a class file.
+fn list_entry<R: Files + AllocGlobal>(
+    runtime: &R,
+    found: &mut Found,
+    folder: &str,
+    name: &[u8],
+) -> Result<(), FolderFault>
+    ensures found { OnOk result (Keeps folder.now found.old found.new) }
+    ensures fault { IfErr result (Blames folder.now) }
+{
+    if name == b".".as_slice() || name == b"..".as_slice() {
+        return Ok(());
+    }
+    let alloc = runtime.alloc();
+    match str::from_utf8(name) {
+        Ok(name) => add_entry(runtime, found, folder, name),
+        Err(_) if name.ends_with(b".class") => {
+            let shown = format!(in alloc; "{}", Shown(name))?;
+            Err(FolderFault::CannotRead(path_in(alloc, folder, shown.as_str())?))
+        }
+        Err(_) => Ok(()),
+    }
+}
+
+// Adds an entry of a folder, if it is a folder or a class file.
+fn add_entry<R: Files + AllocGlobal>(
+    runtime: &R,
+    found: &mut Found,
+    folder: &str,
+    name: &str,
+) -> Result<(), FolderFault>
+    ensures found { OnOk result (Keeps folder.now found.old found.new) }
+    ensures fault { IfErr result (Blames folder.now) }
+{
+    let alloc = runtime.alloc();
+    // No file system gives such a name; one that did would lead out of the folder.
+    if !is_entry_name(name.as_bytes()) {
+        return Err(FolderFault::CannotRead(String::from_str(alloc, folder)?));
+    }
+    let path = path_in(alloc, folder, name)?;
+    match kind_of(runtime, path.as_str()) {
+        Ok(EntryKind::Folder) => Ok(found.add(alloc, folder, name, true)?),
+        Ok(EntryKind::File) => Ok(found.add(alloc, folder, name, false)?),
+        Ok(EntryKind::Other) => Ok(()),
+        Err(_) => Err(FolderFault::CannotRead(String::from_str(alloc, folder)?)),
+    }
+}
+
+// What an entry of a folder is.
+#[derive(Clone, Copy)]
+enum EntryKind {
+    Folder,
+    /// A file, or a link to one or to nothing.
+    File,
+    /// A device, a pipe or a socket, which might never end, or a link to one of these or to a folder.
+    Other,
+}
+
+// A link is followed, but for one to a folder: that might lead round in a circle.
+fn kind_of<R: Files>(runtime: &R, path: &str) -> io::Result<EntryKind> {
+    let kind = fs::symlink_metadata(runtime, path)?.file_type();
+    if kind.is_dir() {
+        return Ok(EntryKind::Folder);
+    }
+    if !kind.is_symlink() {
+        return Ok(file_or_other(kind.is_file()));
+    }
+    match fs::metadata(runtime, path) {
+        Ok(metadata) => Ok(file_or_other(metadata.is_file())),
+        Err(_) => Ok(EntryKind::File),
+    }
+}
+
+fn file_or_other(is_file: bool) -> EntryKind {
+    if is_file {
+        EntryKind::File
+    } else {
+        EntryKind::Other
+    }
 }

@@ -189,18 +189,26 @@ fn refuse<'a>(alloc: Global, text: &str) -> Result<Request<'a>, AllocError>
 }
 
 // What `--help` ends with.
-const AFTER_HELP: &str = "Example:
-  rmispace run examples/sum T 'f(I)I' 4 --fuel 38
+const AFTER_HELP: &str = "Further commands:
+  serve  Serves a space over TCP
+  call   Calls an object of a space that is served
+  show   Shows the classes of a folder, and their members and code
+  help   Prints this help, or that of a command
 
-Spaces over TCP:
-  rmispace serve --help
-  rmispace call --help
+With --explain, lines below a refusal say what it means, and what to change.
+
+Example:
+  rmispace run examples/sum T 'f(I)I' 4 --fuel 38
 
 Exit status:
   0  the method returned, the classes are accepted, or the script is done
   1  the method threw, or its fuel was spent
   2  the classes are refused
   3  anything else: the words, a file, the start, a line of the script, memory, the output";
+
+// What the help of a command ends with that reads class files.
+const EXPLAIN_HELP: &str =
+    "With --explain, lines below a refusal say what it means, and what to change.";
 
 fn whole_command<'a>(alloc: Global) -> Result<Command<'a>, AllocError>
     ensures { IfOk result (λ command. app_of command ≡ program) }
@@ -231,6 +239,7 @@ fn check_command<'a>(alloc: Global) -> Result<Command<'a>, AllocError>
 {
     Command::new(alloc, "check")
         .about("Checks the classes of a folder and prints how many they are")
+        .after_help(EXPLAIN_HELP)
         .arg(folder_word(alloc))
 }
 
@@ -239,6 +248,7 @@ fn sim_command<'a>(alloc: Global) -> Result<Command<'a>, AllocError>
 {
     Command::new(alloc, "sim")
         .about("Plays a script over spaces and prints what it shows")
+        .after_help(EXPLAIN_HELP)
         .arg(folder_word(alloc))?
         .arg(wanted(alloc, "script", "SCRIPT", "The file of the script"))
 }
@@ -248,6 +258,7 @@ fn run_command<'a>(alloc: Global) -> Result<Command<'a>, AllocError>
 {
     Command::new(alloc, "run")
         .about("Runs a method and prints how it ended")
+        .after_help(EXPLAIN_HELP)
         .arg(folder_word(alloc))?
         .arg(wanted(
             alloc,

@@ -1,6 +1,7 @@
 pub mod ActLemmas
 pub mod EnterLemmas
 pub mod FitLemmas
+pub mod ForgetLemmas
 pub mod MakeLemmas
 pub mod Pieces
 pub mod ResidentLemmas

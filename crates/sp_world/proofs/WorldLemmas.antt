@@ -83,7 +83,7 @@ nobody is_space i why events old new none items refused still = λ spaces a. rec
 
 -- ---- worlds
 
-wired-grow : (f : rules.Space → rules.Space) → ((s : rules.Space) → (f s).setting ≡ s.setting) → (i : ℕ) (p : rules.World) (wiring : Wiring) → IsWired p wiring → IsWired (grow f i p) wiring
+pub wired-grow : (f : rules.Space → rules.Space) → ((s : rules.Space) → (f s).setting ≡ s.setting) → (i : ℕ) (p : rules.World) (wiring : Wiring) → IsWired p wiring → IsWired (grow f i p) wiring
 wired-grow f k i p wiring h = record {
   numbers = λ peer. h.numbers peer ∙ sym (number-same f k i p.spaces peer);
   pipes = h.pipes;

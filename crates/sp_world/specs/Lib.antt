@@ -1,4 +1,5 @@
 pub mod Answered
+pub mod Forgotten
 pub mod Happenings
 pub mod Residents
 pub mod Steps

@@ -24,6 +24,7 @@ pub(crate) struct Resident<S> {
 }
 
 impl<S: WorldSpace> Resident<S> {
+    ghost use Rattle.sp_world.specs.Forgotten.{silent};
     ghost use Rattle.sp_world.specs.Residents.{IsResident, TakesRow, one_event, refused_event, refused_step, row_in, step_events_of};
 
     // A space to which nothing has happened.
@@ -88,6 +89,14 @@ impl<S: WorldSpace> Resident<S> {
             Some(outputs) => outputs.as_slice(),
             None => &[],
         }
+    }
+
+    // Lets go of what the space answered.
+    pub(crate) fn forget(&mut self)
+        ensures { (s : Space) → IsResident S.is_space s self.old
+            → IsResident S.is_space (silent s) self.new }
+    {
+        self.answers.clear();
     }
 
     // Keeps a row that the space answered. Returns its number. It takes no memory.

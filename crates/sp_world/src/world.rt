@@ -45,6 +45,7 @@ pub struct World<S> {
 
 impl<S: WorldSpace + Drop> World<S> {
     ghost use Rattle.sp_world.specs.Residents.{AreResidents, told};
+    ghost use Rattle.sp_world.specs.Forgotten.{without_outputs};
     ghost use Rattle.sp_world.specs.Waitings.{AreNew, IsSpaceAt, IsWorld, is_settled};
 
     /// The world of these spaces, to which nothing has happened.
@@ -97,8 +98,8 @@ impl<S: WorldSpace + Drop> World<S> {
         }
     }
 
-    /// All that the space of a number answered, a row for each event of the world that came to it, oldest
-    /// first.
+    /// All that the space of a number answered, or has answered since it was last [forgotten](World::forget_outputs): a
+    /// row for each event of the world that came to it, oldest first.
     pub fn outputs(&self, number: usize) -> Option<&[Vec<Output>]>
         ensures { (w : Rules) → IsWorld S.is_space w self.now → option_map (λ rows. told rows.now) result ≡ option_map (λ (s : Space). s.outputs) (slice_get w.spaces number) }
     {
@@ -106,6 +107,19 @@ impl<S: WorldSpace + Drop> World<S> {
             Some(resident) => Some(resident.answers.as_slice()),
             None => None,
         }
+    }
+
+    /// Lets go of what the space of a number has answered, so that it takes no more memory. All else stays.
+    pub fn forget_outputs(&mut self, number: usize)
+        requires { is_settled self.old ≡ true }
+        ensures world { (w : Rules) → IsWorld S.is_space w self.old
+            → IsWorld S.is_space (without_outputs number w) self.new }
+        ensures settled { is_settled self.new ≡ true }
+    {
+        if number >= self.residents.len() {
+            return;
+        }
+        self.residents[number].forget();
     }
 
     /// The dials that wait to be opened or refused, oldest first.

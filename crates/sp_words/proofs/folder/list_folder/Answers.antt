@@ -1,8 +1,5 @@
 use Rattle.sp_words.proofs.folder.list_folder.Goals as goal
 
-pub loop-entry-preserved : goal.loop-entry-preserved
-loop-entry-preserved g c = (
-  c.loop-entry.invariant.0,
-  c.loop-entry.invariant.1,
-  λ root below all. (c.in_ok-add.ensures) root (rw c.as_str-path.ensures.value below) (c.loop-entry.invariant.2 root below all),
-)
+pub loop-byte-preserved : goal.loop-byte-preserved
+loop-byte-preserved g c = λ root below all.
+    (c.in_ok-take_byte.ensures).found root (rw c.as_str-path.ensures.value below) (c.loop-byte.invariant root below all)

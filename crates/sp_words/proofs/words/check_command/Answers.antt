@@ -7,5 +7,5 @@ use Rattle.sp_words.proofs.words.check_command.Goals as goal
 
 pub returns : goal.returns
 returns c =
-    let bare : IsCommand (new_shape (codes "check")) c.about.result = search rules in
+    let bare : IsCommand (new_shape (codes "check")) c.after_help.result = search rules in
     IfOk-weaker c.arg.result _ _ (λ command adds. one_rule_more _ command _ _ _ adds c.folder_word.ensures bare) c.arg.ensures

@@ -7,7 +7,7 @@ use Rattle.sp_words.proofs.words.run_command.Goals as goal
 
 pub returns : goal.returns
 returns c =
-    let bare : IsCommand (new_shape (codes "run")) c.about.result = search rules in
+    let bare : IsCommand (new_shape (codes "run")) c.after_help.result = search rules in
     let one = one_rule_more _ c.in_ok-arg.field-0 _ _ _ c.in_ok-arg.ensures c.folder_word.ensures bare in
     let two = one_rule_more _ c.in_ok-arg-2.field-0 _ _ _ c.in_ok-arg-2.ensures c.wanted.ensures one in
     let three = one_rule_more _ c.in_ok-arg-3.field-0 _ _ _ c.in_ok-arg-3.ensures c.wanted-2.ensures two in

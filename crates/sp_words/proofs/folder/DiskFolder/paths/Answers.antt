@@ -1,4 +1,4 @@
-use Rattle.std.proofs.Common.{rules, string_bytes, subst, sym}
+use Rattle.std.proofs.Common.{inl, rules, string_bytes, subst, sym}
 use Rattle.std.proofs.lemmas.List.Sorted.{All-permutation}
 use Rattle.std.proofs.lemmas.Result.{err_from_is_err_and}
 use Rattle.sp_words.specs.Folders.{IsBelow, IsClassPath}
@@ -26,4 +26,4 @@ loop-preserved g c =
     (c.in_ok-list_folder-in-Some.ensures).found c.args.folder.now next.1 (c.loop.invariant.0, next.0)
 
 pub returns-clause-fault : goal.returns-clause-fault
-returns-clause-fault g c = subst (IsBelow c.args.folder.now) (sym (c.in_ok-from_str.ensures).ok) (itself c.args.folder.now)
+returns-clause-fault g c = inl (subst (IsBelow c.args.folder.now) (sym (c.in_ok-from_str.ensures).ok) (itself c.args.folder.now))
