@@ -48,9 +48,9 @@ fn show_words<'a>(alloc: Global) -> Result<Command<'a>, AllocError> {
                 .help("The folder whose files *.class, in it and below it, are the class set"),
         )?
         .arg(
-            Arg::new(alloc, "class").value_name("CLASS").help(
-                "A class of it, as a/b/C: its fields and methods",
-            ),
+            Arg::new(alloc, "class")
+                .value_name("CLASS")
+                .help("A class of it, as a/b/C: its fields and methods"),
         )?
         .arg(
             Arg::new(alloc, "method").value_name("METHOD").help(
