@@ -13,13 +13,13 @@ use indexmap::IndexMap;
 use space_ids::ObjId;
 use std::alloc::{AllocError, Global};
 use std::marker::Model;
-use table_copies::copy_map;
+use table_copies::{NumberHashes, copy_map};
 use uuid::Uuid;
 
 /// The objects of which clients are remembered, with those clients.
 #[derive(Drop)]
 pub(crate) struct Objects {
-    lists: IndexMap<ObjId, Clients>,
+    lists: IndexMap<ObjId, Clients, NumberHashes>,
 }
 
 impl Model for Objects {
@@ -37,7 +37,7 @@ impl Objects {
         ensures { result ≡ [] }
     {
         Objects {
-            lists: IndexMap::new(alloc),
+            lists: IndexMap::with_hasher(alloc, NumberHashes::new()),
         }
     }
 

@@ -8,7 +8,7 @@ ghost use Rattle.std.specs.Map.{keys_of, lookup, remove_entry, set_value, values
 use indexmap::IndexMap;
 use std::alloc::{AllocError, Global};
 use std::mem;
-use table_copies::{CopyIn, copy_map};
+use table_copies::{CopyIn, NumberHashes, copy_map};
 
 /// Rows by numbers. A row that comes has a number above all that are there, so the rows have the order
 /// in which they came. A row is found, changed and taken away at a cost that does not depend on how many
@@ -17,7 +17,7 @@ use table_copies::{CopyIn, copy_map};
 /// A contract names the lists of rows, in their order, that the value may stand for.
 #[derive(Debug, Drop)]
 pub struct RisingMap<T> {
-    rows: IndexMap<u64, T>,
+    rows: IndexMap<u64, T, NumberHashes>,
 }
 
 impl<T: Drop> RisingMap<T> {
@@ -28,7 +28,7 @@ impl<T: Drop> RisingMap<T> {
         ensures { AreRows [] result }
     {
         RisingMap {
-            rows: IndexMap::new(alloc),
+            rows: IndexMap::with_hasher(alloc, NumberHashes::new()),
         }
     }
 

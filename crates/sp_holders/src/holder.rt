@@ -12,12 +12,12 @@ ghost use Rattle.sp_state.specs.Spaces.{IsSpace};
 ghost use Rattle.sp_holders.specs.Places.{tables_have};
 
 use crate::fields::object_has;
-use crate::same::{is_among, is_result};
+use crate::same::is_result;
 use sp_living::Living;
 use sp_results::{CallResults, Results};
 use sp_state::SpaceState;
 use sp_tasks::Tasks;
-use space_ids::{ObjId, Ref};
+use space_ids::{ObjId, Ref, is_among};
 
 /// A call that came, by its connection and its number there.
 #[derive(Clone, Copy, PartialEq, Eq)]

@@ -3,17 +3,7 @@
 ghost use Rattle.std.specs.Prelude.{◌≡◌};
 ghost use Rattle.sp_rules.specs.References.{is_reference_in, reference_of, references_in, references_of};
 
-use space_ids::{Ref, Value};
-
-// Whether the reference is among these: one of the same space, id and class.
-pub(crate) fn is_among(references: &[Ref], reference: &Ref) -> bool
-    ensures { result ≡ is_reference_in references.now reference.now }
-{
-    references.iter().any(|other| {
-        reference.space == other.space
-            && (reference.id == other.id && reference.class == other.class)
-    })
-}
+use space_ids::{Ref, Value, is_among};
 
 // Whether one of the values is the reference.
 pub(crate) fn is_in(values: &[Value], reference: &Ref) -> bool

@@ -8,7 +8,7 @@ ghost use Rattle.sp_rules.specs.State.{State};
 ghost use Rattle.sp_living.specs.Holding.{listed};
 
 use crate::Living;
-use space_ids::{ForeignId, Ref};
+use space_ids::{ForeignId, Ref, is_among};
 use std::alloc::AllocError;
 
 impl Living {
@@ -124,14 +124,4 @@ impl Living {
             None => false,
         }
     }
-}
-
-// Whether the reference is among these.
-fn is_among(references: &[Ref], reference: &Ref) -> bool
-    ensures { result ≡ is_reference_in references.now reference.now }
-{
-    references.iter().any(|other| {
-        reference.space == other.space
-            && (reference.id == other.id && reference.class == other.class)
-    })
 }

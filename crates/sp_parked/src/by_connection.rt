@@ -6,7 +6,7 @@ ghost use Rattle.rising_map.specs.Rows.{AreBelow};
 use indexmap::IndexMap;
 use rising_map::RisingMap;
 use std::alloc::{AllocError, Global};
-use table_copies::copy_map;
+use table_copies::{NumberHashes, copy_map};
 
 /// The tickets of the frames that came on a connection, by the connections, in the order in which they
 /// came. A ticket comes and goes at a cost that does not depend on how many there are.
@@ -15,7 +15,7 @@ use table_copies::copy_map;
 #[derive(Drop)]
 pub(crate) struct ByConnection {
     alloc: Global,
-    tickets: IndexMap<u64, RisingMap<()>>,
+    tickets: IndexMap<u64, RisingMap<()>, NumberHashes>,
 }
 
 impl ByConnection {
@@ -27,7 +27,7 @@ impl ByConnection {
     {
         ByConnection {
             alloc,
-            tickets: IndexMap::new(alloc),
+            tickets: IndexMap::with_hasher(alloc, NumberHashes::new()),
         }
     }
 

@@ -9,6 +9,7 @@ use crate::{Connection, Link};
 use indexmap::IndexMap;
 use space_ids::Uuid;
 use std::alloc::{AllocError, Global};
+use table_copies::NumberHashes;
 
 /// The open connections of a space by number, and by peer those that it dialled; and the peers that it
 /// dialled and that neither opened nor refused.
@@ -16,7 +17,7 @@ use std::alloc::{AllocError, Global};
 /// A contract names the lists of the rules that the value may stand for.
 #[derive(Drop)]
 pub struct Connections {
-    rows: IndexMap<u64, Connection>,
+    rows: IndexMap<u64, Connection, NumberHashes>,
     links: IndexMap<Uuid, Link>,
 }
 
@@ -28,7 +29,7 @@ impl Connections {
         ensures { AreConnections [] [] result }
     {
         Connections {
-            rows: IndexMap::new(alloc),
+            rows: IndexMap::with_hasher(alloc, NumberHashes::new()),
             links: IndexMap::new(alloc),
         }
     }

@@ -16,7 +16,7 @@ use crate::orphans::Orphans;
 use crate::unacknowledged::Unacknowledged;
 use rising_map::RisingMap;
 use sp_store::IdSet;
-use space_ids::{Ref, Uuid, Value};
+use space_ids::{Ref, Uuid, Value, is_among};
 use std::alloc::{AllocError, Global};
 
 // How long a result is held after the last moment of its connection, in milliseconds.
@@ -209,14 +209,4 @@ impl CallResults {
         tickets.sort_unstable();
         Ok(tickets)
     }
-}
-
-// Whether the reference is among these: one of the same space, id and class.
-fn is_among(references: &[Ref], reference: &Ref) -> bool
-    ensures { result ≡ is_reference_in references.now reference.now }
-{
-    references.iter().any(|other| {
-        reference.space == other.space
-            && (reference.id == other.id && reference.class == other.class)
-    })
 }

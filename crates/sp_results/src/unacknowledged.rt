@@ -5,12 +5,12 @@ ghost use Rattle.std.specs.Map.{lookup};
 
 use indexmap::IndexMap;
 use std::alloc::{AllocError, Global};
-use table_copies::{CopyIn, copy_map};
+use table_copies::{CopyIn, NumberHashes, copy_map};
 
 /// The tickets of the results of one connection that wait for an Ack, by the numbers of the calls.
 #[derive(Drop)]
 pub(crate) struct Numbers {
-    pub(crate) tickets: IndexMap<u64, u64>,
+    pub(crate) tickets: IndexMap<u64, u64, NumberHashes>,
 }
 
 impl CopyIn for Numbers {
@@ -30,7 +30,7 @@ impl CopyIn for Numbers {
 #[derive(Drop)]
 pub(crate) struct Unacknowledged {
     alloc: Global,
-    numbers: IndexMap<u64, Numbers>,
+    numbers: IndexMap<u64, Numbers, NumberHashes>,
 }
 
 impl Unacknowledged {
@@ -42,7 +42,7 @@ impl Unacknowledged {
     {
         Unacknowledged {
             alloc,
-            numbers: IndexMap::new(alloc),
+            numbers: IndexMap::with_hasher(alloc, NumberHashes::new()),
         }
     }
 
@@ -81,7 +81,7 @@ impl Unacknowledged {
         match self.numbers.get_index_of(&conn) {
             Some(index) => self.numbers[index].tickets.reserve(1),
             None => {
-                let mut tickets = IndexMap::new(self.alloc);
+                let mut tickets = IndexMap::with_hasher(self.alloc, NumberHashes::new());
                 tickets.reserve(1)?;
                 self.numbers.insert(conn, Numbers { tickets })?;
                 Ok(())

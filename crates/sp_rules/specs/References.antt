@@ -8,6 +8,7 @@ use Rattle.space_ids.specs.declared.ids.ForeignId.{ForeignId}
 use Rattle.uuid.specs.declared.Uuid.{Uuid}
 use Rattle.space_ids.specs.declared.ids.ObjId.{ObjId}
 use Rattle.space_ids.specs.declared.ids.Ref.{Ref}
+pub use Rattle.space_ids.specs.References.{is_same_reference}
 use Rattle.space_ids.specs.declared.value.Value.{Value}
 use Rattle.space_ids.specs.declared.value.Value.TheVariants as values
 
@@ -24,10 +25,6 @@ references_in (Some value) = reference_of value
 
 abbrev pub references_of : List Value → List Ref
 references_of values = flat_map reference_of values
-
--- Two references are the same if their space, id and class are.
-abbrev pub is_same_reference : Ref → Ref → Bool
-is_same_reference a b = bytes_eq a.space b.space && (a.id.0 == b.id.0 && a.class.0 == b.class.0)
 
 -- Two values are the same if both are null, or the same int, array or reference.
 abbrev pub is_same_value : Value → Value → Bool

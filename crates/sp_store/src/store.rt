@@ -15,7 +15,7 @@ use crate::instance::Instance;
 use indexmap::IndexMap;
 use space_ids::{ClassId, ObjId, Uuid, Value};
 use std::alloc::{AllocError, Global};
-use table_copies::copy_map;
+use table_copies::{NumberHashes, copy_map};
 
 /// How many remote objects may stand in a space.
 pub const MOST_OBJECTS: usize = 65_536;
@@ -26,7 +26,7 @@ pub const MOST_OBJECTS: usize = 65_536;
 #[derive(Drop)]
 pub struct Store {
     own: Uuid,
-    objects: IndexMap<ObjId, Instance>,
+    objects: IndexMap<ObjId, Instance, NumberHashes>,
     // The last id that was given, 0 before the first.
     last: ObjId,
 }
@@ -40,7 +40,7 @@ impl Store {
     {
         Store {
             own,
-            objects: IndexMap::new(alloc),
+            objects: IndexMap::with_hasher(alloc, NumberHashes::new()),
             last: ObjId(0),
         }
     }

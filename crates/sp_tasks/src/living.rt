@@ -10,7 +10,7 @@ ghost use Rattle.sp_tasks.specs.Recorded.{IsSpareCopy};
 ghost use Rattle.sp_tasks.specs.Rows.{answered_row, back_row, hand_of, is_in_hand, is_ready, lent_row, parked_row, replied_hand, replied_row, roomy_hand, roomy_row, row_holds, row_holds_op, started_row, value_given, with_gained};
 
 use crate::{LentTask, Op, Origin, Outcome, Record, Reply};
-use space_ids::{ObjId, Ref, Uuid, Value};
+use space_ids::{ObjId, Ref, Uuid, Value, is_among};
 use std::alloc::{AllocError, Global};
 use std::marker::Model;
 use table_copies::CopyIn;
@@ -332,14 +332,4 @@ fn has_object(held: &[Ref], own: &Uuid, id: ObjId) -> bool
 {
     held.iter()
         .any(|reference| reference.space == *own && id == reference.id)
-}
-
-// Whether the reference is among these.
-pub(crate) fn is_among(references: &[Ref], reference: &Ref) -> bool
-    ensures { result ≡ is_reference_in references.now reference.now }
-{
-    references.iter().any(|other| {
-        reference.space == other.space
-            && (reference.id == other.id && reference.class == other.class)
-    })
 }

@@ -21,7 +21,7 @@ use sp_store::IdSet;
 use space_ids::{Ref, Uuid, Value};
 use std::alloc::{AllocError, Global};
 use std::marker::Model;
-use table_copies::copy_map;
+use table_copies::{NumberHashes, copy_map};
 
 /// The living tasks of a space, by id. Ids begin at 1, rise, and never come again. A task starts, is lent,
 /// waits and ends at a cost that grows with the logarithm of how many live; the lowest that may go on is
@@ -34,7 +34,7 @@ pub struct Tasks {
     made: u64,
     // For how many more tasks there is room in both of the following.
     room: usize,
-    rows: IndexMap<u64, LivingTask>,
+    rows: IndexMap<u64, LivingTask, NumberHashes>,
     // At the index of each row its id, if the task may go on.
     ready: LeastTree,
 }
@@ -59,7 +59,7 @@ impl Tasks {
         Tasks {
             made: 0,
             room: 0,
-            rows: IndexMap::new(alloc),
+            rows: IndexMap::with_hasher(alloc, NumberHashes::new()),
             ready: LeastTree::new(alloc),
         }
     }
@@ -378,7 +378,7 @@ impl Tasks {
 
 // Adds the ids of the space's own objects that the tasks of these rows hold.
 fn insert_held(
-    rows: &IndexMap<u64, LivingTask>,
+    rows: &IndexMap<u64, LivingTask, NumberHashes>,
     own: &Uuid,
     ids: &mut IdSet,
 ) -> Result<(), AllocError>

@@ -4,8 +4,10 @@
 
 pub use base_types::Row;
 pub use ids::{ClassId, ForeignId, ObjId, Ref};
+pub use references::is_among;
 pub use uuid::Uuid;
 pub use value::Value;
 
 mod ids;
+mod references;
 mod value;

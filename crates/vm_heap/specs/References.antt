@@ -4,6 +4,7 @@ use Rattle.std.specs.Prelude.{◌≡◌, ◌≤◌, ◌<◌, ℕ, Bool, List, []
 use Rattle.std.specs.List.{position}
 use Rattle.std.specs.Str.{bytes_eq}
 use Rattle.space_ids.specs.declared.ids.Ref.{Ref}
+pub use Rattle.space_ids.specs.References.{is_same_reference}
 use Rattle.uuid.specs.declared.Uuid.{Uuid}
 use Rattle.vm_heap.specs.Tagged.{most_rows}
 
@@ -12,10 +13,6 @@ pub record Table : Type 0 where
   pub own : Uuid
   pub rows : List Ref
   pub limit : ℕ
-
--- two references are the same if their space, id and class are
-abbrev pub is_same_reference : Ref → Ref → Bool
-is_same_reference a b = bytes_eq a.space b.space && (a.id.0 == b.id.0 && a.class.0 == b.class.0)
 
 -- a reference to an object of the task's own space
 abbrev pub is_own : Table → Ref → Bool

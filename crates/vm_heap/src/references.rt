@@ -2,7 +2,7 @@
 ghost use Rattle.std.specs.Prelude.{◌≡◌, ◌<◌, [], length, IfOk, Some, option_map, slice_get};
 ghost use Rattle.std.specs.List.{position};
 ghost use Rattle.vm_heap.specs.Tagged.{Remote};
-ghost use Rattle.vm_heap.specs.References.{is_own, is_same_reference, row_of, row_for, with_reference};
+ghost use Rattle.vm_heap.specs.References.{is_own, row_of, row_for, with_reference};
 
 use crate::word::Word;
 use space_ids::{Ref, Uuid};
@@ -104,11 +104,5 @@ impl References {
 fn row_of(rows: &[Ref], reference: &Ref) -> Option<usize>
     ensures { result ≡ row_of rows.now reference.now }
 {
-    rows.iter().position(|row| is_same(reference, row))
-}
-
-fn is_same(one: &Ref, other: &Ref) -> bool
-    ensures { result ≡ is_same_reference one.now other.now }
-{
-    one.space == other.space && one.id == other.id && one.class == other.class
+    rows.iter().position(|row| reference.is_same(row))
 }
