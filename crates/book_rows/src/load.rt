@@ -80,6 +80,7 @@ pub fn run_load<
 where
     S::Task: Send,
     S::Rest: Send,
+    S::Base: Send,
 {
     let switch = Switch {
         is_off: AtomicU64::new(0),
@@ -121,6 +122,7 @@ fn start_and_feed<
 where
     S::Task: Send,
     S::Rest: Send,
+    S::Base: Send,
 {
     for _ in 0..load.workers {
         let Some(pass) = book.pass(rt, alloc) else {

@@ -173,6 +173,7 @@ fn play_in<M: Setup, S: Standing + Drop + Send, R: Host, W: Write>(
 where
     S::Task: Send,
     S::Rest: Send,
+    S::Base: Send,
     requires { S.is_space M.setting opening space }
 {
     let opened = Opened::new(rt.alloc(), play.notices())?;
@@ -190,6 +191,7 @@ fn play_named<N: Naming + Send + Sync, S: Standing + Drop + Send, R: Host, W: Wr
 where
     S::Task: Send,
     S::Rest: Send,
+    S::Base: Send,
     requires name { opened.blank.name ≡ N.name }
     requires parts { opened.blank.parts ≡ N.parts }
     requires all { opened.blank.parts ≡ N.all }
@@ -209,6 +211,7 @@ fn play_on<N: Naming + Send + Sync, S: Standing + Drop + Send, R: Host, W: Write
 where
     S::Task: Send,
     S::Rest: Send,
+    S::Base: Send,
     requires { N.all ≡ N.parts }
 {
     let alloc = rt.alloc();

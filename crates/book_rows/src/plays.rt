@@ -127,6 +127,7 @@ pub fn hold<
 where
     S::Task: Send,
     S::Rest: Send,
+    S::Base: Send,
 {
     let (Some(mut pass), Some(one), Some(other)) = (
         book.pass(rt, alloc),

@@ -1,15 +1,18 @@
 -- What is seen of passes. (This project's own.)
-use Rattle.std.specs.Prelude.{◌≡◌, ℕ, ◌==◌, Bool, List, [], ◌∷◌, ◌++◌, if◌then◌else◌}
+use Rattle.std.specs.Prelude.{◌≡◌, ℕ, ◌==◌, nat_lt, Bool, List, [], ◌∷◌, ◌++◌, drop, if◌then◌else◌}
 use Rattle.std.specs.List.{list_any, sum_by}
 use Rattle.sp_ready.specs.Notices.{numbered}
 use Rattle.sp_ready.specs.declared.rule.Known.{Known}
 use Rattle.sp_rules.specs.Books.{Entry}
 
--- its number, the entries of its calls, oldest first, the tasks that it was lent, what its seat at the queue knows, and for how many calls its list
--- has room beside those with which its tasks come back
+-- its number, the entries of its calls, oldest first; how many of them it made before its list began, and how many entries checkpoints had cut by
+-- then; the tasks that it was lent, what its seat at the queue knows, and for how many calls its list has room beside those with which its tasks come
+-- back
 pub record Seen : Type 0 where
   pub number : ℕ
   pub calls : List Entry
+  pub older : ℕ
+  pub since : ℕ
   pub hand : List ℕ
   pub known : Known
   pub room : ℕ
@@ -46,6 +49,10 @@ Returns task entry p q = (q.number ≡ p.number) × (q.calls ≡ p.calls ++ entr
 abbrev pub standing : ℕ → List (ℕ × Entry) → List Entry
 standing number [] = []
 standing number (e ∷ es) = if e.0 == number then e.1 ∷ standing number es else standing number es
+
+-- the calls in its list, where so many entries are cut: none, if its list began before
+abbrev pub calls_since : ℕ → Seen → List Entry
+calls_since cut p = if nat_lt p.since cut then [] else drop p.older p.calls
 
 -- Passes took notices out of one list, in which those that nobody took are the last: each of the others, at its place in the list, was taken once, by
 -- one of them.

@@ -4,6 +4,7 @@ ghost use Rattle.std.specs.Prelude.{ℕ, ◌≡◌, [], true, Some, IfErr, IfNon
 ghost use Rattle.sp_book.specs.Passes.{Adds, Holds, IsSame, Returns, has};
 ghost use Rattle.sp_events.specs.declared.fault.CoreFault.TheVariants.{NotLent};
 ghost use Rattle.sp_history.specs.Entries.{event_of_input};
+ghost use Rattle.sp_history.specs.Faults.{cut_fault};
 ghost use Rattle.sp_history.specs.Frames.{unsent_with};
 ghost use Rattle.sp_history.specs.declared.fault.BookFault.TheVariants.{BookFull, Core};
 ghost use Rattle.sp_ready.specs.Notices.{Took, newcomer};
@@ -30,8 +31,8 @@ use std::sync::{Mutex, Wait};
 /// sleep beside it. Threads share it, each with a pass of its own.
 ///
 /// Each accepted call of a pass enters one entry in the history, and the same one in the list of the pass.
-/// Whenever the lock is free, the history replays to the state of the space, and the outputs that wait are
-/// an end of those that it answers. No lock is held while a task makes instructions of its own.
+/// Whenever the lock is free, the history replays, from the state at the last checkpoint, to the state of the
+/// space, and the outputs that wait are an end of those that waited there and those that it answers. No lock is held while a task makes instructions of its own.
 #[derive(Drop)]
 pub struct Book<N: Naming, S: Lender + Drop> {
     pub(crate) locked: Mutex<Locked<N, S>>,
@@ -226,6 +227,25 @@ impl<N: Naming, S: Lender + Drop> Book<N, S> {
         drop(guard);
         self.wake(told);
         done
+    }
+
+    /// Cuts all entries of the history, and answers how many they were. It keeps a copy of the state of the
+    /// space, from which the entries that come replay; that is all the room that it takes. Outputs that wait
+    /// stay. InHand comes while tasks are in hand, and Memory where there is no room for the copy; then nothing
+    /// changes.
+    pub fn checkpoint<R: Wait>(&self, rt: &R, alloc: Global) -> Result<u64, BookFault>
+        ensures { IfErr result (λ fault. (in_hand : ℕ) × (fault ≡ cut_fault in_hand)) }
+    {
+        let mut guard = self.locked.lock(rt);
+        let locked = &mut *guard;
+        let done = locked.checkpoint(alloc);
+        let told = locked.tell(done.is_ok(), &self.queue);
+        drop(guard);
+        self.wake(told);
+        match done {
+            Ok(cut) => Ok(cut.entries.len() as u64),
+            Err(fault) => Err(fault),
+        }
     }
 
     /// Announces that a worker looks for a notice, and sleeps if there is none. It waits by the key, or drops

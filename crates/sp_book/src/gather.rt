@@ -3,10 +3,10 @@
 ghost use Rattle.std.specs.Prelude.{◌≡◌, ◌+◌, ◌≤◌, ℕ, [], All, IfErr, IfNone, IfOk, IsSome, length, map, true, vec_len};
 ghost use Rattle.std.specs.List.{sum_by};
 ghost use Rattle.crossbeam_queue.specs.Passes.{IsPassOf, view};
-ghost use Rattle.sp_book.specs.Passes.{TookEach, standing};
+ghost use Rattle.sp_book.specs.Passes.{TookEach, calls_since, standing};
 ghost use Rattle.sp_history.specs.Books.{Replays, run_from};
 ghost use Rattle.sp_history.specs.Entries.{entry_of, numbered_entry, outputs_in_all};
-ghost use Rattle.sp_history.specs.Logs.{unnumbered};
+ghost use Rattle.sp_history.specs.Logs.{IsKept, start_of, unnumbered};
 ghost use Rattle.sp_rules.specs.State.{opening};
 
 use crate::book::Book;
@@ -14,9 +14,8 @@ use crate::locked::Locked;
 use crate::naming::Naming;
 use crate::pass::Pass;
 use crate::same::same_call;
-use sp_history::{Call, Entry, History};
+use sp_history::{Call, Entry, Gathered, History};
 use sp_lender::Lender;
-use sp_outputs::Output;
 use sp_ready::{Queue, Seat, account, return_seat};
 use std::sync::Mutex;
 use std::sync::ledger::Share;
@@ -31,14 +30,6 @@ pub enum Stray {
     /// 97: this many passes are missing.
     #[error("PassesOut({0})")]
     PassesOut(u64),
-}
-
-/// What a book was: its space, the entries that replay to its state, oldest first, and the outputs that wait.
-#[derive(Drop)]
-pub struct Gathered<S: Lender + Drop> {
-    pub space: S,
-    pub entries: Vec<Entry>,
-    pub waiting: Vec<Vec<Output>>,
 }
 
 // Whether the entries under a number are, in order, those of the calls.
@@ -58,11 +49,17 @@ fn same_calls(entries: &[Entry], number: u32, calls: &[Call]) -> bool
     at == calls.len()
 }
 
-// Whether the entries under the number of a pass are those of its calls.
-fn stands<N: Naming>(entries: &[Entry], pass: &Pass<N>) -> bool
-    ensures { result ≡ true → standing pass.now.number (map numbered_entry entries.now) ≡ pass.now.calls }
+// Whether the entries under the number of a pass are those of its calls since the last checkpoint, where so many
+// entries are cut.
+fn stands<N: Naming>(entries: &[Entry], cut: u64, pass: &Pass<N>) -> bool
+    ensures { result ≡ true → standing pass.now.number (map numbered_entry entries.now)
+        ≡ calls_since cut pass.now }
 {
-    same_calls(entries, pass.number, pass.list.as_slice())
+    if pass.since < cut {
+        same_calls(entries, pass.number, &[])
+    } else {
+        same_calls(entries, pass.number, pass.list.as_slice())
+    }
 }
 
 // The lower of a number and another, if there is another.
@@ -76,13 +73,14 @@ fn lower(other: Option<u32>, number: u32) -> Option<u32>
 }
 
 // The lowest number of a pass under which other entries stand than those of its calls.
-fn differing<N: Naming>(entries: &[Entry], passes: &Vec<Pass<N>>) -> Option<u32>
-    ensures { IfNone result (All (λ pass. standing pass.number (map numbered_entry entries.now) ≡ pass.calls) passes.now.items) }
+fn differing<N: Naming>(entries: &[Entry], cut: u64, passes: &Vec<Pass<N>>) -> Option<u32>
+    ensures { IfNone result (All (λ pass. standing pass.number (map numbered_entry entries.now)
+        ≡ calls_since cut pass) passes.now.items) }
 {
     let mut lowest: Option<u32> = None;
     for index in 0..passes.len() {
         let pass = &passes[index];
-        if !stands(entries, pass) {
+        if !stands(entries, cut, pass) {
             lowest = lower(lowest, pass.number);
         }
     }
@@ -96,13 +94,14 @@ fn find_stray<N: Naming, S: Lender + Drop>(
     passes: &Vec<Pass<N>>,
 ) -> Option<Stray>
     ensures whole { IfNone result (out ≤ vec_len passes.now) }
-    ensures stand { IfNone result (All (λ pass. standing pass.number history.now.entries ≡ pass.calls) passes.now.items) }
+    ensures stand { IfNone result (All (λ pass. standing pass.number history.now.entries
+        ≡ calls_since (length history.now.cut) pass) passes.now.items) }
 {
     let missing = (out as usize).saturating_sub(passes.len());
     if missing > 0 {
         return Some(Stray::PassesOut(missing as u64));
     }
-    match differing(history.entries(), passes) {
+    match differing(history.entries(), history.cut(), passes) {
         Some(number) => Some(Stray::Differs(number)),
         None => None,
     }
@@ -130,6 +129,9 @@ fn merged<N: Naming>(
         let Pass {
             number: _,
             list: _,
+            older: _,
+            since: _,
+            past: _,
             hand: _,
             share,
             seat,
@@ -141,9 +143,10 @@ fn merged<N: Naming>(
 }
 
 impl<N: Naming, S: Lender + Drop> Book<N, S> {
-    /// Takes the book apart, of which all passes are here. It answers the space with its entries: those under
-    /// the number of each pass are, in order, those of its calls, and there are as many as all passes made; and
-    /// each notice was taken once.
+    /// Takes the book apart, of which all passes are here. It answers the space with the entries since the last
+    /// checkpoint: those under the number of each pass are, in order, those of its list, which is empty if it
+    /// began before; with those that were cut there are as many as all passes made; and each notice was taken
+    /// once.
     ///
     /// If passes are missing, or entries differ, the book and the passes are handed back; that passes are
     /// missing comes first.
@@ -152,10 +155,22 @@ impl<N: Naming, S: Lender + Drop> Book<N, S> {
         passes: Vec<Pass<N>>,
     ) -> Result<Gathered<S>, (Stray, Book<N, S>, Vec<Pass<N>>)>
         requires { N.all ≡ N.parts }
-        ensures space { IfOk result (λ gathered. S.is_space N.setting (run_from N.setting opening (unnumbered (map numbered_entry gathered.entries.items))) gathered.space) }
-        ensures replays { IfOk result (λ gathered. Replays N.setting opening [] (unnumbered (map numbered_entry gathered.entries.items)) (outputs_in_all gathered.waiting.items)) }
-        ensures stand { IfOk result (λ gathered. All (λ pass. standing pass.number (map numbered_entry gathered.entries.items) ≡ pass.calls) passes.items) }
-        ensures count { IfOk result (λ gathered. vec_len gathered.entries ≡ sum_by (λ pass. length pass.calls) passes.items) }
+        ensures base { IfOk result (λ gathered. IsKept (S.is_base N.setting) N.setting
+            gathered.cut.value gathered.base) }
+        ensures space { IfOk result (λ gathered. S.is_space N.setting
+            (run_from N.setting (start_of N.setting gathered.cut.value)
+            (unnumbered (map numbered_entry gathered.entries.items))) gathered.space) }
+        ensures past { IfOk result (λ gathered. Replays N.setting opening []
+            (unnumbered gathered.cut.value) gathered.before.value) }
+        ensures replays { IfOk result (λ gathered. Replays N.setting
+            (start_of N.setting gathered.cut.value) gathered.before.value
+            (unnumbered (map numbered_entry gathered.entries.items))
+            (outputs_in_all gathered.waiting.items)) }
+        ensures stand { IfOk result (λ gathered. All (λ pass.
+            standing pass.number (map numbered_entry gathered.entries.items)
+            ≡ calls_since (length gathered.cut.value) pass) passes.items) }
+        ensures count { IfOk result (λ gathered. length gathered.cut.value
+            + vec_len gathered.entries ≡ sum_by (λ pass. length pass.calls) passes.items) }
         ensures notices { IfOk result (λ _. TookEach passes.items) }
         ensures back { IfErr result (λ back. back.2.items ≡ passes.items) }
     {
@@ -184,11 +199,6 @@ impl<N: Naming, S: Lender + Drop> Book<N, S> {
         let (mut all, mut writer) = merged(&queue, rest, writer, passes);
         tally.audit(&mut all);
         account(&queue, &mut writer);
-        let (space, entries, waiting) = history.into_parts();
-        Ok(Gathered {
-            space,
-            entries,
-            waiting,
-        })
+        Ok(history.into_parts())
     }
 }

@@ -6,12 +6,12 @@
 
 pub use book::Book;
 pub use crossbeam_utils::sync::Key;
-pub use gather::{Gathered, Stray};
+pub use gather::Stray;
 pub use lent::Lent;
 pub use naming::Naming;
 pub use opened::Opened;
 pub use pass::Pass;
-pub use sp_history::{BookFault, Call, Entry, Input, Setup, Twice, Unlent};
+pub use sp_history::{BookFault, Call, Entry, Gathered, Input, Setup, Twice, Unlent};
 pub use sp_lender::{InHand, Lender, Pause};
 
 mod book;
@@ -21,5 +21,6 @@ mod locked;
 mod naming;
 mod opened;
 mod pass;
+mod past;
 mod returning;
 mod same;

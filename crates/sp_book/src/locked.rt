@@ -1,10 +1,11 @@
 //! What lies under the lock.
 
-ghost use Rattle.std.specs.Prelude.{◌≡◌, [], IfErr, IfOk, IfSome, OnErr, OnOk};
+ghost use Rattle.std.specs.Prelude.{◌≡◌, ◌≤◌, [], IfErr, IfOk, IfSome, OnErr, OnOk, length, map};
 ghost use Rattle.sp_book.specs.Passes.{Adds, Holds, IsSame};
-ghost use Rattle.sp_history.specs.Entries.{event_of_input};
+ghost use Rattle.sp_history.specs.Entries.{event_of_input, numbered_entry};
+ghost use Rattle.sp_history.specs.Faults.{cut_fault};
 ghost use Rattle.sp_history.specs.Frames.{frames_on, unsent_with};
-ghost use Rattle.sp_history.specs.Logs.{entered, with_one_lent};
+ghost use Rattle.sp_history.specs.Logs.{IsKept, entered, with_all_cut, with_one_lent};
 ghost use Rattle.sp_history.specs.declared.fault.BookFault.TheVariants.{BookFull};
 ghost use Rattle.sp_history.specs.declared.twice.Left.TheVariants.{Whole};
 ghost use Rattle.sp_ready.specs.Notices.{newcomer};
@@ -17,7 +18,9 @@ ghost use Rattle.sp_tasks.specs.Rows.{replied_hand};
 use crate::lent::Lent;
 use crate::naming::Naming;
 use crate::pass::Pass;
-use sp_history::{BookFault, History, Input, Left, Twice, Unlent};
+use crate::past::NoCalls;
+use ghost_value::Ghost;
+use sp_history::{BookFault, History, Input, Left, Segment, Twice, Unlent};
 use sp_lender::Lender;
 use sp_ready::{Queue, Seat, another_seat, put};
 use sp_tasks::Op;
@@ -52,7 +55,7 @@ impl<N: Naming, S: Lender + Drop> Model for Locked<N, S> {
         × (((known_by s.writer).pushes ≡ true) × ((known_by s.writer).taken ≡ []) × ((known_by s.writer).parts + s.passes ≡ 2 ^ 32))
         × (s.rest.parts + s.passes ≡ N.all)
         × (s.rest.amount ≡ 0)
-        × (s.tally.total ≡ length s.history.entries)
+        × (s.tally.total ≡ length s.history.cut + length s.history.entries)
         × (N.all ≡ 2 ^ 32) };
 }
 
@@ -97,6 +100,7 @@ impl<N: Naming, S: Lender + Drop> Locked<N, S> {
     ) -> Result<(), (BookFault, Left<Input>)>
         ensures entered { OnOk result (self.new ≡ entered N.setting pass.old.number (OnEvent (event_of_input input)) self.old) }
         ensures listed { OnOk result (Adds (OnEvent (event_of_input input)) pass.old pass.new) }
+        ensures since { OnOk result (length self.old.cut ≤ pass.new.since) }
         ensures unchanged { OnErr result (self.new ≡ self.old) }
         ensures kept { OnErr result (IsSame pass.old pass.new) }
         ensures back { IfErr result (λ refused. refused.0 ≡ BookFull → refused.1 ≡ Whole input) }
@@ -109,7 +113,8 @@ impl<N: Naming, S: Lender + Drop> Locked<N, S> {
         }
         match self.history.on(alloc, pass.number(), input) {
             Ok(call) => {
-                pass.enter(&mut self.tally, call);
+                let cut = self.history.cut();
+                pass.enter(&mut self.tally, cut, call);
                 Ok(())
             }
             Err(refused) => Err(refused),
@@ -136,7 +141,8 @@ impl<N: Naming, S: Lender + Drop> Locked<N, S> {
         }
         match self.history.fail_write(alloc, pass.number(), conn, unsent) {
             Ok(call) => {
-                pass.enter(&mut self.tally, call);
+                let cut = self.history.cut();
+                pass.enter(&mut self.tally, cut, call);
                 Ok(())
             }
             Err((fault, _)) => Err(fault),
@@ -161,6 +167,9 @@ impl<N: Naming, S: Lender + Drop> Locked<N, S> {
         Some(Pass {
             number,
             list: Vec::new(alloc),
+            older: 0,
+            since: 0,
+            past: Ghost::of::<(), NoCalls>(&()),
             hand: Vec::new(alloc),
             share,
             seat,
@@ -191,6 +200,20 @@ impl<N: Naming, S: Lender + Drop> Locked<N, S> {
         }
     }
 
+    // It answers what is cut, so that it is let go without the lock.
+    pub(crate) fn checkpoint(&mut self, alloc: Global) -> Result<Segment<S>, BookFault>
+        ensures cut { OnOk result (self.new ≡ with_all_cut self.old) }
+        ensures entries { IfOk result (λ cut. map numbered_entry cut.entries.items
+            ≡ self.old.entries) }
+        ensures base { IfOk result (λ cut. IsKept (S.is_base N.setting) N.setting self.old.cut
+            cut.base) }
+        ensures idle { OnOk result (self.old.in_hand ≡ 0) }
+        ensures fault { IfErr result (λ fault. fault ≡ cut_fault self.old.in_hand) }
+        ensures unchanged { OnErr result (self.new ≡ self.old) }
+    {
+        self.history.checkpoint(alloc)
+    }
+
     pub(crate) fn commit(
         &mut self,
         pass: &mut Pass<N>,
@@ -213,7 +236,8 @@ impl<N: Naming, S: Lender + Drop> Locked<N, S> {
         }
         match self.history.commit(pass.number(), &mut lent.task, op) {
             Ok(call) => {
-                pass.enter(&mut self.tally, call);
+                let cut = self.history.cut();
+                pass.enter(&mut self.tally, cut, call);
                 Ok(())
             }
             Err(refused) => Err(refused),

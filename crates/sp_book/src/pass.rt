@@ -1,43 +1,53 @@
 //! What a thread holds of a book.
 
-ghost use Rattle.std.specs.Prelude.{◌≡◌, ◌==◌, ◌<◌, ◌+◌, [], ◌∷◌, ◌++◌, length, position, remove, true};
+ghost use Rattle.std.specs.Prelude.{◌≡◌, ◌==◌, ◌<◌, ◌≤◌, ◌+◌, ◌^◌, [], ◌∷◌, ◌++◌, length, position, remove, true};
 ghost use Rattle.sp_book.specs.Passes.{Adds, IsSame, has, without};
 ghost use Rattle.sp_history.specs.Entries.{entry_of};
 
 use crate::naming::Naming;
+use crate::past::{AllCalls, CallList};
+use ghost_value::Ghost;
 use sp_history::Call;
 use sp_ready::Seat;
 use std::marker::Model;
 use std::sync::ledger::{Book as Tally, Share};
 
-/// A thread's right to call a book: its number, the calls that it made, the ids of the tasks that it was
-/// lent, its share of the count of entries, and its seat at the queue.
+/// A thread's right to call a book: its number, the calls that it made since a checkpoint, and how many it
+/// made before, the ids of the tasks that it was lent, its share of the count of entries, and its seat at the
+/// queue.
 #[derive(Drop)]
 pub struct Pass<N: Naming> {
     pub(crate) number: u32,
     pub(crate) list: Vec<Call>,
+    // How many calls it made before its list began, and how many entries were cut by then.
+    pub(crate) older: u64,
+    pub(crate) since: u64,
+    // The calls before its list began.
+    pub(crate) past: Ghost<CallList>,
     pub(crate) hand: Vec<u64>,
     pub(crate) share: Share<N>,
     pub(crate) seat: Seat,
 }
 
 impl<N: Naming> Model for Pass<N> {
-    ghost use Rattle.std.specs.Prelude.{◌≡◌, ◌+◌, ◌-◌, ◌≤◌, [], false, map, vec_capacity, vec_len};
+    ghost use Rattle.std.specs.Prelude.{◌≡◌, ◌+◌, ◌-◌, ◌≤◌, ◌^◌, ◌++◌, [], false, length, map, vec_capacity, vec_len};
     ghost use Rattle.crossbeam_queue.specs.Passes.{view as known_by};
     ghost use Rattle.sp_book.specs.Passes.{Seen};
     ghost use Rattle.sp_history.specs.Entries.{entry_of};
 
     ghost Value = { Seen };
 
-    ghost view = { λ p. record { number = p.number; calls = map entry_of p.list.items; hand = p.hand.items; known = known_by p.seat; room = vec_capacity p.list - (vec_len p.list + vec_len p.hand) } };
+    ghost view = { λ p. record { number = p.number; calls = p.past.value ++ map entry_of p.list.items; older = p.older; since = p.since; hand = p.hand.items; known = known_by p.seat; room = vec_capacity p.list - (vec_len p.list + vec_len p.hand) } };
 
-    ghost invariant = { λ p. (p.share.amount ≡ vec_len p.list)
+    ghost invariant = { λ p. (p.share.amount ≡ p.older + vec_len p.list)
         × (p.share.parts ≡ 1)
         × (vec_len p.list + vec_len p.hand ≤ vec_capacity p.list)
         × (p.seat.table_id ≡ N.table)
         × (p.seat.me.1 ≡ [])
         × ((known_by p.seat).parts ≡ 1)
-        × ((known_by p.seat).pushes ≡ false) };
+        × ((known_by p.seat).pushes ≡ false)
+        × (p.older ≡ length p.past.value)
+        × (p.older + vec_len p.list ≤ 2 ^ 63) };
 }
 
 // Where a task stands among these.
@@ -59,7 +69,7 @@ impl<N: Naming> Pass<N> {
     pub fn calls(&self) -> u64
         ensures { result ≡ length self.now.calls }
     {
-        self.list.len() as u64
+        self.older + self.list.len() as u64
     }
 
     /// Whether it was lent this task, which has not come back.
@@ -89,24 +99,47 @@ impl<N: Naming> Pass<N> {
         self.list.reserve(self.hand.len() + 1).is_ok()
     }
 
-    // A call for which it has room is one of its own, and counts.
-    pub(crate) fn enter(&mut self, tally: &mut Tally<N>, call: Call)
-        requires { 0 < self.old.room }
+    // Where entries were cut since its list began, it begins anew.
+    fn begin_list(&mut self, cut: u64)
+        ensures same { IsSame self.old self.new }
+        ensures room { self.old.room ≤ self.new.room }
+        ensures since { cut ≤ self.new.since }
+    {
+        if self.since < cut {
+            let past = Ghost::of::<Pass<N>, AllCalls>(self);
+            self.past = past;
+            self.older += self.list.len() as u64;
+            self.list.clear();
+            self.since = cut;
+        }
+    }
+
+    // A call for which it has room is one of its own, and counts. So many entries were cut before it.
+    pub(crate) fn enter(&mut self, tally: &mut Tally<N>, cut: u64, call: Call)
+        requires room { 0 < self.old.room }
+        requires few { tally.old.total < 2 ^ 63 }
         ensures counted { tally.new.total ≡ tally.old.total + 1 }
         ensures listed { Adds (entry_of call) self.old self.new }
+        ensures since { cut ≤ self.new.since }
     {
+        self.begin_list(cut);
+        tally.audit(&mut self.share);
         tally.add(&mut self.share, 1);
         self.list.push_reserved(call);
     }
 
     // A task that it was lent came back: the call is one of its own, and counts.
-    pub(crate) fn take_back(&mut self, tally: &mut Tally<N>, at: usize, call: Call)
-        requires { at < length self.old.hand }
+    pub(crate) fn take_back(&mut self, tally: &mut Tally<N>, cut: u64, at: usize, call: Call)
+        requires within { at < length self.old.hand }
+        requires few { tally.old.total < 2 ^ 63 }
         ensures counted { tally.new.total ≡ tally.old.total + 1 }
         ensures calls { self.new.calls ≡ self.old.calls ++ entry_of call ∷ [] }
         ensures hand { self.new.hand ≡ remove self.old.hand at }
         ensures same { (self.new.number ≡ self.old.number) × (self.new.known ≡ self.old.known) }
+        ensures since { cut ≤ self.new.since }
     {
+        self.begin_list(cut);
+        tally.audit(&mut self.share);
         tally.add(&mut self.share, 1);
         self.hand.remove(at);
         self.list.push_reserved(call);

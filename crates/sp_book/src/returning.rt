@@ -35,7 +35,8 @@ impl<N: Naming, S: Lender + Drop> Locked<N, S> {
         let Lent { task, name: _ } = lent;
         match self.history.park(pass.number, task, op) {
             Ok(call) => {
-                pass.take_back(&mut self.tally, at, call);
+                let cut = self.history.cut();
+                pass.take_back(&mut self.tally, cut, at, call);
                 Ok(())
             }
             Err((task, fault)) => Err((
@@ -65,7 +66,8 @@ impl<N: Naming, S: Lender + Drop> Locked<N, S> {
         let Lent { task, name: _ } = lent;
         match self.history.give_back(pass.number, task) {
             Ok(call) => {
-                pass.take_back(&mut self.tally, at, call);
+                let cut = self.history.cut();
+                pass.take_back(&mut self.tally, cut, at, call);
                 Ok(())
             }
             Err((task, fault)) => Err((
@@ -95,7 +97,8 @@ impl<N: Naming, S: Lender + Drop> Locked<N, S> {
         let Lent { task, name: _ } = lent;
         match self.history.finish(pass.number, task) {
             Ok((call, rest)) => {
-                pass.take_back(&mut self.tally, at, call);
+                let cut = self.history.cut();
+                pass.take_back(&mut self.tally, cut, at, call);
                 Ok(rest)
             }
             Err((task, fault)) => Err((

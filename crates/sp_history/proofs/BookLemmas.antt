@@ -27,6 +27,24 @@ unfolding run_from
 true_push g s [] e are is = (is, tt)
 true_push g s (x ∷ xs) e are is = (are.0, true_push g (on g (event_of x) s).0 xs e are.1 is)
 
+-- ---- entries, and then others
+
+pub run_append : (g : Setting) (s : State) (es fs : List Entry) → run_from g s (es ++ fs) ≡ run_from g (run_from g s es) fs
+unfolding run_from
+run_append g s [] fs = refl
+run_append g s (x ∷ xs) fs = run_append g (on g (event_of x) s).0 xs fs
+
+answers_append : (g : Setting) (s : State) (es fs : List Entry) → answers_from g s (es ++ fs) ≡ answers_from g s es ++ answers_from g (run_from g s es) fs
+unfolding run_from answers_from
+answers_append g s [] fs = refl
+answers_append g s (x ∷ xs) fs = ap (λ l. (on g (event_of x) s).1 ++ l) (answers_append g (on g (event_of x) s).0 xs fs)
+    ∙ sym (append_assoc (on g (event_of x) s).1 (answers_from g (on g (event_of x) s).0 xs) (answers_from g (run_from g (on g (event_of x) s).0 xs) fs))
+
+true_append : (g : Setting) (s : State) (es fs : List Entry) → AreTrueFrom g s es → AreTrueFrom g (run_from g s es) fs → AreTrueFrom g s (es ++ fs)
+unfolding run_from
+true_append g s [] fs are others = others
+true_append g s (x ∷ xs) fs are others = (are.0, true_append g (on g (event_of x) s).0 xs fs are.1 others)
+
 told_if : (b : Bool) (x : Output) (xs ys : List Output) → (if b then x ∷ (xs ++ ys) else xs ++ ys) ≡ (if b then x ∷ xs else xs) ++ ys
 told_if true x xs ys = refl
 told_if false x xs ys = refl
@@ -52,19 +70,39 @@ replays_on g s b es w e r is =
       );
     }
 
+-- what waits after entries, and then others, is an end of what all of them answer
+pub replays_then : (g : Setting) (s : State) (b : List Output) (es fs : List Entry) (v w : List Output) → Replays g s b es v → Replays g (run_from g s es) v fs w → Replays g s b (es ++ fs) w
+replays_then g s b es fs v w r q =
+    let first = told (answers_from g s es) in
+    let later = told (answers_from g (run_from g s es) fs) in
+    record {
+      replies = true_append g s es fs r.replies q.replies;
+      waits = (
+        r.waits.0 ++ q.waits.0,
+        ap (λ l. b ++ told l) (answers_append g s es fs) ∙ ap (λ l. b ++ l) (told_append (answers_from g s es) (answers_from g (run_from g s es) fs))
+            ∙ sym (append_assoc b first later) ∙ ap (λ l. l ++ later) r.waits.1 ∙ append_assoc r.waits.0 v later ∙ ap (λ l. r.waits.0 ++ l) q.waits.1
+            ∙ sym (append_assoc r.waits.0 q.waits.0 w),
+      );
+    }
+
 -- ---- no entry
 
 pub runs_not : (Is : State → Type 0) (g : Setting) (s : State) → Is s → Is (run_from g s [])
 unfolding run_from
 runs_not Is g s is = is
 
-pub replays_not : (g : Setting) (s : State) → Replays g s [] [] []
+-- what waited there waits
+pub replays_not : (g : Setting) (s : State) (w : List Output) → Replays g s w [] w
 unfolding answers_from
-replays_not g s = record { replies = tt; waits = ([], refl) }
+replays_not g s w = record { replies = tt; waits = ([], append-nil w) }
 
 -- all that waited is taken
 pub replays_taken : (g : Setting) (s : State) (b : List Output) (es : List Entry) (w : List Output) → Replays g s b es w → Replays g s b es []
 replays_taken g s b es w r = record { replies = r.replies; waits = (b ++ told (answers_from g s es), sym (append-nil (b ++ told (answers_from g s es)))) }
+
+-- what waited first is taken
+pub replays_less : (g : Setting) (s : State) (b : List Output) (es : List Entry) (v w : List Output) → Replays g s b es (v ++ w) → Replays g s b es w
+replays_less g s b es v w r = record { replies = r.replies; waits = (r.waits.0 ++ v, r.waits.1 ∙ sym (append_assoc r.waits.0 v w)) }
 
 -- a commit answers nothing
 pub commit_quiet : (g : Setting) (s : State) (task k : ℕ) (op : Op) → (on g (Committed task k op) s).1 ≡ []

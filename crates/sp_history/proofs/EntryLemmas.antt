@@ -1,6 +1,7 @@
 -- One stored entry more: what lies under the lock still replays, and what is seen of it.
 use Rattle.std.specs.Global.{Global}
-use Rattle.std.proofs.Common.{arith, Vec, ◌≡◌, ◌<◌, ℕ, zero, suc, length, take, get_or, not, Bool, true, false, List, [], ◌∷◌, ◌++◌, map, filter, if◌then◌else◌, sym, refl, ap, ◌∙◌, subst, append_assoc, append-nil}
+use Rattle.std.specs.Prelude.{remove}
+use Rattle.std.proofs.Common.{arith, slice_index_or, Vec, ◌≡◌, ◌<◌, ℕ, zero, suc, length, take, get_or, not, Bool, true, false, List, [], ◌∷◌, ◌++◌, map, filter, if◌then◌else◌, sym, refl, ap, ◌∙◌, subst, append_assoc, append-nil}
 use Rattle.sp_outputs.specs.Notes.{output_of}
 use Rattle.sp_outputs.specs.declared.output.Output as declared
 use Rattle.sp_rules.specs.Books as rules
@@ -8,10 +9,10 @@ use Rattle.sp_rules.specs.Books.{IsTrueEntry, event_of}
 use Rattle.sp_rules.specs.Classes.{Setting}
 use Rattle.sp_rules.specs.Events.{Output}
 use Rattle.sp_rules.specs.Space.{on}
-use Rattle.sp_rules.specs.State.{State, opening}
+use Rattle.sp_rules.specs.State.{State}
 use Rattle.sp_history.specs.Books.{Replays, is_ready, run_from, told}
 use Rattle.sp_history.specs.Entries.{entry_of, numbered_entry, outputs_in_all}
-use Rattle.sp_history.specs.Logs.{Log, unnumbered}
+use Rattle.sp_history.specs.Logs.{Log, start_of, unnumbered}
 use Rattle.sp_history.specs.declared.entry.Entry.{Entry}
 use Rattle.sp_history.proofs.BookLemmas.{replays_on, runs_on}
 
@@ -19,13 +20,13 @@ use Rattle.sp_history.proofs.BookLemmas.{replays_on, runs_on}
 abbrev pub Entries : List Entry → List rules.Entry
 Entries h = unnumbered (map numbered_entry h)
 
--- the state to which they replay
-abbrev pub state_at : Setting → List Entry → State
-state_at g h = run_from g opening (Entries h)
+-- the state to which they replay from one
+abbrev pub state_at : Setting → State → List Entry → State
+state_at g s h = run_from g s (Entries h)
 
 -- what the event of an entry answers after others
-abbrev pub answers_at : Setting → List Entry → Entry → List Output
-answers_at g h e = (on g (event_of (entry_of e.call)) (state_at g h)).1
+abbrev pub answers_at : Setting → State → List Entry → Entry → List Output
+answers_at g s h e = (on g (event_of (entry_of e.call)) (state_at g s h)).1
 
 entries_push : (h : List Entry) (e : Entry) → Entries (h ++ e ∷ []) ≡ Entries h ++ entry_of e.call ∷ []
 entries_push [] e = refl
@@ -45,12 +46,18 @@ take_push [] i x below is = absurd (omega (arith, below))
 take_push (y ∷ ys) zero x below is = ap (λ z. z ∷ []) (sym is)
 take_push (y ∷ ys) (suc i) x below is = ap (λ l. y ∷ l) (take_push ys i x (omega (arith, below)) is)
 
+-- the first element of a list is taken
+pub first_off : {A : Type 0} (xs ys : List A) (x : A) → 0 < length xs → x ≡ slice_index_or xs 0 x → ys ≡ remove xs 0 → xs ≡ x ∷ ys
+first_off [] ys x some is rest = absurd (omega (arith, some))
+first_off (z ∷ zs) ys x some is rest = ap (λ l. z ∷ l) (sym rest) ∙ ap (λ h. h ∷ ys) (sym is)
+
 -- ---- what is kept of the state and of what waits
 
 -- a fact of the state after one entry more
-pub stands_more : (Is : State → Type 0) (g : Setting) (h es : List Entry) (e : Entry) → es ≡ h ++ e ∷ [] → Is (on g (event_of (entry_of e.call)) (state_at g h)).0 → Is (state_at g es)
-stands_more Is g h es e items is =
-    subst (λ l. Is (state_at g l)) (sym items) (subst (λ l. Is (run_from g opening l)) (sym (entries_push h e)) (runs_on Is g opening (Entries h) (entry_of e.call) is))
+pub stands_more : (Is : State → Type 0) (g : Setting) (s : State) (h es : List Entry) (e : Entry) → es ≡ h ++ e ∷ [] → Is (on g (event_of (entry_of e.call)) (state_at g s h)).0
+    → Is (state_at g s es)
+stands_more Is g s h es e items is =
+    subst (λ l. Is (state_at g s l)) (sym items) (subst (λ l. Is (run_from g s l)) (sym (entries_push h e)) (runs_on Is g s (Entries h) (entry_of e.call) is))
 
 -- the outputs of one event more wait, without those that are notices
 pub waits_more : (told_of : List Output) (ws new : List (Vec declared.Output Global)) (w : Vec declared.Output Global) → new ≡ ws ++ w ∷ [] → map output_of w.items ≡ told told_of
@@ -61,23 +68,24 @@ waits_more told_of ws new w pushed batch = ap outputs_in_all pushed ∙ batches_
 pub waits_still : (w quiet : List Output) → quiet ≡ [] → w ≡ w ++ told quiet
 waits_still w quiet none = sym (ap (λ l. w ++ told l) none ∙ append-nil w)
 
-pub replays_more : (g : Setting) (h es : List Entry) (w v : List Output) (e : Entry) → es ≡ h ++ e ∷ [] → Replays g opening [] (Entries h) w → IsTrueEntry g (state_at g h) (entry_of e.call)
-    → v ≡ w ++ told (answers_at g h e) → Replays g opening [] (Entries es) v
-replays_more g h es w v e items r is waits =
-    subst (λ l. Replays g opening [] (Entries l) v) (sym items)
-    (subst (λ l. Replays g opening [] l v) (sym (entries_push h e)) (subst (Replays g opening [] (Entries h ++ entry_of e.call ∷ [])) (sym waits) (replays_on g opening [] (Entries h) w (entry_of e.call) r is)))
+pub replays_more : (g : Setting) (s : State) (b : List Output) (h es : List Entry) (w v : List Output) (e : Entry) → es ≡ h ++ e ∷ [] → Replays g s b (Entries h) w
+    → IsTrueEntry g (state_at g s h) (entry_of e.call) → v ≡ w ++ told (answers_at g s h e) → Replays g s b (Entries es) v
+replays_more g s b h es w v e items r is waits =
+    subst (λ l. Replays g s b (Entries l) v) (sym items)
+    (subst (λ l. Replays g s b l v) (sym (entries_push h e)) (subst (Replays g s b (Entries h ++ entry_of e.call ∷ [])) (sym waits) (replays_on g s b (Entries h) w (entry_of e.call) r is)))
 
 -- ---- what is seen
 
-abbrev pub log : List (ℕ × rules.Entry) → List Output → ℕ → ℕ → Log
-log entries waiting in_hand limit = record { entries = entries; waiting = waiting; in_hand = in_hand; limit = limit }
+abbrev pub log : List (ℕ × rules.Entry) → List Output → List (ℕ × rules.Entry) → List Output → ℕ → ℕ → Log
+log cut before entries waiting in_hand limit = record { cut = cut; before = before; entries = entries; waiting = waiting; in_hand = in_hand; limit = limit }
 
 -- the log after one entry more
-pub logs_more : (g : Setting) (h es : List Entry) (w v : List Output) (e : Entry) (m n limit : ℕ) → es ≡ h ++ e ∷ [] → v ≡ w ++ told (answers_at g h e) → m ≡ n
-    → log (map numbered_entry es) v m limit ≡ log (map numbered_entry h ++ (e.by, entry_of e.call) ∷ []) (w ++ told (answers_at g h e)) n limit
-logs_more g h es w v e m n limit items waits lent =
+pub logs_more : (g : Setting) (cut : List (ℕ × rules.Entry)) (b : List Output) (h es : List Entry) (w v : List Output) (e : Entry) (m n limit : ℕ) → es ≡ h ++ e ∷ []
+    → v ≡ w ++ told (answers_at g (start_of g cut) h e) → m ≡ n
+    → log cut b (map numbered_entry es) v m limit ≡ log cut b (map numbered_entry h ++ (e.by, entry_of e.call) ∷ []) (w ++ told (answers_at g (start_of g cut) h e)) n limit
+logs_more g cut b h es w v e m n limit items waits lent =
     let entries = ap (map numbered_entry) items ∙ numbered_push h e in
-    λ i. record { entries = entries i; waiting = waits i; in_hand = lent i; limit = limit }
+    λ i. record { cut = cut; before = b; entries = entries i; waiting = waits i; in_hand = lent i; limit = limit }
 
 -- ---- what is told
 

@@ -1,3 +1,4 @@
 pub mod BookLemmas
+pub mod CutLemmas
 pub mod EntryLemmas
 pub mod FrameLemmas

@@ -1,10 +1,10 @@
 -- A book from any state on: the state to which entries lead, what they answer, and when what waits is an end of that. (This project's own.)
 use Rattle.std.specs.Prelude.{◌≡◌, not, Bool, true, false, List, [], ◌∷◌, ◌++◌, filter}
-use Rattle.sp_rules.specs.Books.{Entry, AreTrueFrom, event_of}
+use Rattle.sp_rules.specs.Books.{Entry, AreTrueFrom, book_run, event_of}
 use Rattle.sp_rules.specs.Classes.{Setting}
 use Rattle.sp_rules.specs.Events.{Output, Ready}
 use Rattle.sp_rules.specs.Space.{on}
-use Rattle.sp_rules.specs.State.{State}
+use Rattle.sp_rules.specs.State.{State, opening}
 
 -- the state to which entries, oldest first, lead from a state
 unfoldable pub run_from : Setting → State → List Entry → State
@@ -31,3 +31,14 @@ IsEnd waiting all = (front : List Output) × (all ≡ front ++ waiting)
 pub record Replays (g : Setting) (start : State) (before : List Output) (entries : List Entry) (waiting : List Output) : Type 0 where
   pub replies : AreTrueFrom g start entries
   pub waits : IsEnd waiting (before ++ told (answers_from g start entries))
+
+-- ---- entries that were cut
+
+-- With those that were cut before them, entries replay from the first state on.
+abbrev pub CutBooksReplay : Type 0
+CutBooksReplay = (g : Setting) (cut entries : List Entry) (before waiting : List Output) → Replays g opening [] cut before → Replays g (run_from g opening cut) before entries waiting
+    → Replays g opening [] (cut ++ entries) waiting
+
+-- They lead where the rules say that a book of all of them leads.
+abbrev pub CutBooksLead : Type 0
+CutBooksLead = (g : Setting) (cut entries : List Entry) → run_from g (run_from g opening cut) entries ≡ book_run g (cut ++ entries)

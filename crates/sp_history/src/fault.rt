@@ -15,6 +15,9 @@ pub enum BookFault {
     /// 95: the entries and the tasks in hand are as many as the book takes.
     #[error("BookFull")]
     BookFull,
+    /// 96: while this many tasks are in hand, no entries are cut.
+    #[error("InHand({0})")]
+    InHand(u64),
     /// Memory ran out.
     #[error("Memory")]
     Memory,

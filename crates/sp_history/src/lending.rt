@@ -43,6 +43,7 @@ impl<N: Setup, S: Lender + Drop> History<N, S> {
         if self.entries.reserve(lent + 1).is_err()
             || self.waiting.reserve(lent + 1).is_err()
             || self.in_hand.reserve(1).is_err()
+            || self.space.reserve().is_err()
         {
             self.remind(task);
             return Err(Unlent::Memory);

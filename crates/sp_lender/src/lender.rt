@@ -18,6 +18,7 @@ use sp_events::{CoreFault, Event};
 use sp_outputs::Output;
 use sp_tasks::{Op, Reply};
 use space_ids::Value;
+use std::alloc::AllocError;
 
 /// A space that lends tasks. Each call makes of its state what the rules say, or is refused and changes
 /// nothing. A task that is refused is handed back as it was.
@@ -26,9 +27,19 @@ pub trait Lender {
     type Task: InHand + Drop;
     /// What is left of a task that ended, to be let go by the caller.
     type Rest: Drop;
+    /// A copy of a state, from which entries replay.
+    type Base: Drop;
 
     // A space of this setting is in this state.
     ghost is_space: { Setting → State → Self → Type 0 };
+
+    // It is a copy of this state of a space of this setting.
+    ghost is_base: { Setting → State → Self.Base → Type 0 };
+
+    /// A copy of the state of the space.
+    fn copy(&self) -> Result<Self::Base, AllocError>
+        ensures { IfOk result (λ base. (g : Setting) (s : State) → is_space g s self.now
+            → is_base g s base) };
 
     /// Lets an event happen, and answers its outputs.
     fn on(&mut self, event: &Event) -> Result<Vec<Output>, CoreFault>
@@ -46,6 +57,10 @@ pub trait Lender {
         ensures outputs { IfOk result (λ outputs. (g : Setting) (s : State) → is_space g s self.old → map output_of outputs.items ≡ (after_event g (Roots method arguments.now fuel) s).1) }
         ensures state { OnOk result ((g : Setting) (s : State) → is_space g s self.old → is_space g (after_event g (Roots method arguments.now fuel) s).0 self.new) }
         ensures unchanged { OnErr result ((g : Setting) (s : State) → is_space g s self.old → is_space g s self.new) };
+
+    /// Makes room for one more task in hand, so that the next [lend](Lender::lend) takes no memory.
+    fn reserve(&mut self) -> Result<(), AllocError>
+        ensures { (g : Setting) (s : State) → is_space g s self.old → is_space g s self.new };
 
     /// Lends a task that may go on, with its record, if it is not lent.
     fn lend(&mut self, task: u64) -> Option<Self::Task>

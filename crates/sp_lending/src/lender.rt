@@ -3,21 +3,32 @@
 use crate::rest::Rest;
 use crate::space::LendingSpace;
 use crate::task::Task;
+use sp_core::SpaceCore;
 use sp_events::{CoreFault, Event};
 use sp_history::Setup;
 use sp_lender::Lender;
 use sp_outputs::Output;
 use sp_tasks::{Op, Reply};
 use space_ids::Value;
+use std::alloc::AllocError;
 
 impl<'p, N: Setup> Lender for LendingSpace<'p, N> {
+    ghost use Rattle.sp_core.specs.Cores.{IsCore};
     ghost use Rattle.sp_lending.specs.Spaces.{IsSpace};
 
     type Task = Task<'p, N>;
 
     type Rest = Rest<'p>;
 
+    type Base = SpaceCore;
+
     ghost is_space = { λ g s space. IsSpace g s space };
+
+    ghost is_base = { λ g s core. IsCore g s core };
+
+    fn copy(&self) -> Result<SpaceCore, AllocError> {
+        self.parts.core.copy()
+    }
 
     fn on(&mut self, event: &Event) -> Result<Vec<Output>, CoreFault> {
         self.parts.on(event)
@@ -30,6 +41,10 @@ impl<'p, N: Setup> Lender for LendingSpace<'p, N> {
         fuel: u64,
     ) -> Result<Vec<Output>, CoreFault> {
         self.parts.root(method, arguments, fuel)
+    }
+
+    fn reserve(&mut self) -> Result<(), AllocError> {
+        self.parts.reserve()
     }
 
     fn lend(&mut self, task: u64) -> Option<Task<'p, N>> {

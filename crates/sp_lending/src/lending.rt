@@ -14,8 +14,16 @@ use crate::home::Home;
 use crate::parts::Parts;
 use crate::task_parts::TaskParts;
 use sp_events::CoreFault;
+use std::alloc::AllocError;
 
 impl<'p> Parts<'p> {
+    /// Makes room for the row of one more task that is out.
+    pub(crate) fn reserve(&mut self) -> Result<(), AllocError>
+        ensures { (g : Setting) (s : State) → IsSpace g s self.old → IsSpace g s self.new }
+    {
+        self.rows.reserve()
+    }
+
     /// Lends a task that may go on, with its record and its machine, if it is not lent. A task without a machine
     /// gets one without the space.
     pub(crate) fn lend(&mut self, task: u64) -> Option<TaskParts<'p>>

@@ -209,6 +209,6 @@ fn give_back<N: Naming, S: Lender + Drop, R: Wait>(
 fn after(fault: BookFault) -> Next {
     match fault {
         BookFault::Memory => Next::GoOn,
-        BookFault::BookFull | BookFault::Core(_) => Next::Stop,
+        BookFault::BookFull | BookFault::InHand(_) | BookFault::Core(_) => Next::Stop,
     }
 }
