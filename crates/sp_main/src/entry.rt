@@ -2,6 +2,7 @@
 
 ghost use Rattle.std.specs.Prelude.{◌≡◌, ◌<◌, ◌≤◌, ◌^◌, ℕ, List, map, string_bytes, IfOk, IfSome};
 ghost use Rattle.sp_behaviours.specs.Told.{AreRemoteRules};
+ghost use Rattle.sp_files.specs.Programs.{IsProgram};
 ghost use Rattle.sp_words.specs.CommandLine.{AsksCheck, AsksRun, AsksSim};
 ghost use Rattle.sp_main.specs.Folders.{AreFilesOf, AreRead, IsContent, told_by};
 ghost use Rattle.sp_main.specs.Replies.{Fails, IsPlayed, IsReply, Replies};
@@ -10,9 +11,10 @@ ghost use Rattle.sp_words.specs.Requests.{run_words, sim_words};
 use cf_reader::MAX_LEN;
 use dev_io::{ReadError, StdSource, read_bytes};
 use net_message::Digest;
-use sim_spaces::{ProgramSpaces, class_digest};
+use sim_spaces::ProgramSpaces;
 use sim_worlds::{ScriptFault, play_script};
 use sp_call_set::CallSet;
+use sp_class_digest::class_digest;
 use sp_files::{ClassBytes, Content, check_classes, program_of};
 use sp_space_runs::run_classes;
 use sp_texts::{
@@ -143,7 +145,8 @@ fn program_report<F: Folder>(
     path: &str,
     folder: &F,
 ) -> Result<Report, AllocError>
-    requires { AreRemoteRules program.classes }
+    requires made { IsProgram files.now program }
+    requires rules { AreRemoteRules program.classes }
     ensures { IfOk result (λ report. IsPlayed path.now report.status report.text.items) }
 {
     match class_digest(alloc, files) {
@@ -167,13 +170,25 @@ fn script_report<F: Folder>(
         Content::Bytes(script) => script,
         Content::Unreadable => return unreadable_report(alloc, path),
     };
-    let classes = CallSet::new(alloc, program)?;
-    let origin = ProgramSpaces::new(alloc, program, &classes, digest);
-    match play_script(alloc, &origin, &script) {
+    match play(alloc, program, digest, &script) {
         Ok(text) => Ok(played_report(text)),
         Err(ScriptFault::BadLine(number)) => bad_line_report(alloc, number),
         Err(ScriptFault::Memory) => Err(AllocError),
     }
+}
+
+/// Plays a script over spaces of the program, which is that of the digest.
+pub(crate) fn play(
+    alloc: Global,
+    program: &Program,
+    digest: Digest,
+    script: &[u8],
+) -> Result<Vec<u8>, ScriptFault>
+    requires { AreRemoteRules program.now.classes }
+{
+    let classes = CallSet::new(alloc, program)?;
+    let origin = ProgramSpaces::new(alloc, program, &classes, digest);
+    play_script(alloc, &origin, script)
 }
 
 /// The class files of a folder, or why they cannot be listed. The last may be one that cannot be read.
@@ -211,8 +226,8 @@ fn read_contents<F: Folder>(
     Ok(files)
 }
 
-// What the device of a file gives: all of its bytes, or its first `most`.
-fn read_content<F: Folder>(
+/// What the device of a file gives: all of its bytes, or its first `most`.
+pub(crate) fn read_content<F: Folder>(
     alloc: Global,
     folder: &F,
     path: &str,

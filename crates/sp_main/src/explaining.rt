@@ -1,17 +1,24 @@
 //! What `--explain` adds below a refusal, on standard error: what it means, and what to change. The texts promise nothing.
 
-use super::entry::class_files;
+ghost use Rattle.sp_behaviours.specs.Told.{AreRemoteRules};
+ghost use Rattle.sp_files.specs.Programs.{IsProgram};
+
+use super::entry::{class_files, play, read_content};
 use cf_explain::explain_reading;
 use cf_load::LoadFault;
 use cf_reader::ReadFault;
 use cls_explain::{ClassSource, explain_link, explain_set};
 use cls_set::SetFault;
+use sim_explain::explain_bad_line;
+use sim_worlds::ScriptFault;
+use sp_class_digest::class_digest;
 use sp_explain::{explain_check, explain_start};
-use sp_files::{ClassBytes, Content, Refusal, check_classes};
-use sp_words::{Folder, Request, request_of};
+use sp_files::{ClassBytes, Content, Refusal, check_classes, program_of};
+use sp_words::{Folder, Request, SimRequest, request_of};
 use space_ids::Value;
 use std::alloc::{AllocError, Global};
 use std::io::Write;
+use vm_step::Program;
 
 /// The method that was to be started, and with what.
 #[derive(Clone, Copy)]
@@ -50,7 +57,7 @@ fn explanation_of<F: Folder>(
             explain_folder(alloc, folder, request.folder, Some(start))
         }
         Request::Check(path) => explain_folder(alloc, folder, path, None),
-        Request::Sim(request) => explain_folder(alloc, folder, request.folder, None),
+        Request::Sim(request) => explain_sim(alloc, folder, &request),
         Request::Tell(_) | Request::Refuse(_) => Ok(String::new(alloc)),
     }
 }
@@ -80,6 +87,44 @@ fn explain_files(
             explain_start(alloc, &sources, start.class, start.method, start.arguments)
         }
         (None, None) => Ok(String::new(alloc)),
+    }
+}
+
+// Why the class files of a folder are refused, or else which line of the script is bad, and why.
+fn explain_sim<F: Folder>(
+    alloc: Global,
+    folder: &F,
+    request: &SimRequest<'_>,
+) -> Result<String, AllocError> {
+    let files = match class_files(alloc, folder, request.folder)? {
+        Ok(files) => files,
+        Err(_) => return Ok(String::new(alloc)),
+    };
+    match program_of(alloc, &files) {
+        Ok(program) => explain_script(alloc, folder, &program, &files, request.script),
+        Err(_) => explain_files(alloc, &files, None),
+    }
+}
+
+// Which line of a script is bad over spaces of the program that the files make, and why.
+fn explain_script<F: Folder>(
+    alloc: Global,
+    folder: &F,
+    program: &Program,
+    files: &[ClassBytes],
+    path: &str,
+) -> Result<String, AllocError>
+    requires made { IsProgram files.now program.now }
+    requires rules { AreRemoteRules program.now.classes }
+{
+    let digest = class_digest(alloc, files)?;
+    let Content::Bytes(script) = read_content(alloc, folder, path, usize::MAX)? else {
+        return Ok(String::new(alloc));
+    };
+    match play(alloc, program, digest, &script) {
+        Ok(_) => Ok(String::new(alloc)),
+        Err(ScriptFault::BadLine(number)) => explain_bad_line(alloc, &script, number),
+        Err(ScriptFault::Memory) => Err(AllocError),
     }
 }
 

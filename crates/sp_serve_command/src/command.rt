@@ -4,12 +4,13 @@ ghost use Rattle.std.specs.Prelude.{◌≡◌};
 ghost use Rattle.sp_behaviours.specs.Classes.{classes_of};
 ghost use Rattle.sp_machines.specs.Limits.{AreLimits};
 ghost use Rattle.sp_behaviours.specs.Told.{AreRemoteRules};
+ghost use Rattle.sp_files.specs.Programs.{IsProgram};
 
 use crate::exports::export_of;
 use crate::serving::run_space;
 use net_message::Digest;
-use sim_spaces::class_digest;
 use sp_call_set::CallSet;
+use sp_class_digest::class_digest;
 use sp_files::{ClassBytes, program_of};
 use sp_history::Setup;
 use sp_main::class_files;
@@ -96,6 +97,7 @@ fn over_program<R: Host + RandomSource, I: BufRead, O: Write + Send + Drop, E: W
     mut out: O,
     err: &mut E,
 ) -> u8
+    requires made { IsProgram files.now program.now }
     requires rules { AreRemoteRules program.now.classes }
 {
     let alloc = rt.alloc();

@@ -2,15 +2,17 @@
 
 ghost use Rattle.std.specs.Prelude.{◌≡◌};
 ghost use Rattle.sp_behaviours.specs.Told.{AreRemoteRules};
+ghost use Rattle.sp_files.specs.Programs.{IsProgram};
 
 use crate::words::{RecordRequest, SimAim, TraceFile, TraceForm, read_sim_words};
 use dev_io::{ReadError, StdSource, read_bytes};
 use net_message::Digest;
 use sim_happenings::ScriptRecord;
-use sim_spaces::{ProgramSpaces, class_digest};
+use sim_spaces::ProgramSpaces;
 use sim_trace::{put_counts, put_svg, put_text};
 use sim_worlds::{ScriptFault, play_recorded};
 use sp_call_set::CallSet;
+use sp_class_digest::class_digest;
 use sp_files::{ClassBytes, program_of};
 use sp_main::class_files;
 use sp_texts::{
@@ -80,6 +82,7 @@ fn over_program<R: Files + AllocGlobal, F: Folder>(
     program: &Program,
     folder: &F,
 ) -> Result<Report, AllocError>
+    requires made { IsProgram files.now program.now }
     requires rules { AreRemoteRules program.now.classes }
 {
     let alloc = rt.alloc();

@@ -2,6 +2,7 @@ use Rattle.std.proofs.Common.{◌∙◌, subst, sym}
 use Rattle.std.proofs.lemmas.Result.{IfOk-at_ok}
 use Rattle.sp_behaviours.proofs.CrossingLemmas.{remote_rules_are_kept}
 use Rattle.sp_main.specs.Folders.{AreFilesOf, told_by}
+use Rattle.sp_files.specs.Programs.{IsProgram}
 use Rattle.sp_texts.specs.RefusalTexts.{IsRefusalOf}
 use Rattle.sp_words.specs.Requests.{sim_words}
 use Rattle.sp_main.proofs.Refused.{no_program_file, without_program}
@@ -15,7 +16,10 @@ returns-in-Err g c =
 
 -- a program that files make keeps the rules on its remote classes
 pub program_report-requires : goal.program_report-requires
-program_report-requires g c = let p = (c.in-Ok-program_of.ensures).program in remote_rules_are_kept p.classes _ p.set p.linked.set p.makes_a_set
+program_report-requires g c = let p = (c.in-Ok-program_of.ensures).program in record {
+  made = subst (λ files. IsProgram files c.in-Ok-program_of.program) ((c.deref.ensures).value ∙ sym (c.deref-in-Ok-program_of.ensures).value) p;
+  rules = remote_rules_are_kept p.classes _ p.set p.linked.set p.makes_a_set;
+}
 
 pub returns-in-Ok-program_of : goal.returns-in-Ok-program_of
 returns-in-Ok-program_of g c =

@@ -1,0 +1,5 @@
+use Rattle.sp_main.proofs.explaining.explain_script.Goals as goal
+
+-- the files make the program
+pub class_digest-requires : goal.class_digest-requires
+class_digest-requires g c = (c.args.program.now, (c.requires).made)
