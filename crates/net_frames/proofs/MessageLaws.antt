@@ -9,7 +9,7 @@ use Rattle.net_frames.specs.declared.kinds.FrameKind.{FrameKind}
 use Rattle.net_frames.specs.declared.kinds.FrameKind.TheVariants as kinds
 use Rattle.net_message.specs.declared.message.Message.{Message}
 use Rattle.net_message.specs.declared.message.Message.TheVariants.{Hello, Call, Returned, Threw, Spent, Ack, Dirty, Lease, Clean, Cleaned, Lookup}
-use Rattle.net_message.specs.Wire.{number_bytes, id_bytes, class_bytes, row_bytes, value_bytes, result_bytes, flag_bytes, name_bytes, body, FitsBytes, IsId, IsClass, IsValue, AreArguments, AreObjects, IsName, IsInRange, is_within}
+use Rattle.net_message.specs.Wire.{number_bytes, id_bytes, class_bytes, row_bytes, value_bytes, result_bytes, flag_bytes, name_bytes, body, FitsBytes, IsId, IsClass, IsValue, AreArguments, AreObjects, IsName, IsVersion, IsInRange, is_within}
 use Rattle.net_frames.specs.Reading.{tested, both, byte_at, raw_at, number_at, id_at, class_at, arguments_at, result_at, objects_at, flag_at, name_at, fields_at, message_at}
 use Rattle.net_message.proofs.Names.{within_true, true_within}
 use Rattle.net_frames.proofs.FieldLaws.{IsBytes, Takes, IsField, refit, headed_takes, shown_again, shown_fails, tested_field, both_field, width8, width4, number_field, raw_field, byte_field}
@@ -21,14 +21,14 @@ u8_field : IsField (number_at 8) (number_bytes 8) (FitsBytes 8)
 u8_field = number_field 8 width8
 
 abbrev hello_at : List ℕ → Result ((ℕ × (List ℕ × List ℕ)) × List ℕ) WireFault
-hello_at bytes = both (tested (is_within 1 1) byte_at) (both (raw_at 16) (raw_at 32)) bytes
+hello_at bytes = both (tested (is_within 1 2) byte_at) (both (raw_at 16) (raw_at 32)) bytes
 
-hello_field : IsField hello_at (λ x. (x.0 ∷ []) ++ (x.1.0 ++ x.1.1)) (λ x. (x.0 ≡ 1) × ((length x.1.0 ≡ 16) × (length x.1.1 ≡ 32)))
+hello_field : IsField hello_at (λ x. (x.0 ∷ []) ++ (x.1.0 ++ x.1.1)) (λ x. IsVersion x.0 × ((length x.1.0 ≡ 16) × (length x.1.1 ≡ 32)))
 hello_field =
-    let version = refit (tested (is_within 1 1) byte_at) (λ byte. byte ∷ []) (λ byte. (byte < 256) × (is_within 1 1 byte ≡ true)) (λ byte. byte ≡ 1)
-    (tested_field byte_at (λ byte. byte ∷ []) (λ byte. byte < 256) (is_within 1 1) byte_field)
-    (λ byte fits. let p = within_true 1 1 byte fits.1 in omega arith) (λ byte e. (omega arith, true_within 1 1 byte (omega arith) (omega arith))) in
-    both_field (tested (is_within 1 1) byte_at) (λ byte. byte ∷ []) (λ byte. byte ≡ 1) (both (raw_at 16) (raw_at 32)) (λ x. x.0 ++ x.1) (λ x. (length x.0 ≡ 16) × (length x.1 ≡ 32)) version
+    let version = refit (tested (is_within 1 2) byte_at) (λ byte. byte ∷ []) (λ byte. (byte < 256) × (is_within 1 2 byte ≡ true)) IsVersion
+    (tested_field byte_at (λ byte. byte ∷ []) (λ byte. byte < 256) (is_within 1 2) byte_field)
+    (λ byte fits. within_true 1 2 byte fits.1) (λ byte e. (omega (arith, e.1), true_within 1 2 byte e.0 e.1)) in
+    both_field (tested (is_within 1 2) byte_at) (λ byte. byte ∷ []) IsVersion (both (raw_at 16) (raw_at 32)) (λ x. x.0 ++ x.1) (λ x. (length x.0 ≡ 16) × (length x.1 ≡ 32)) version
     (both_field (raw_at 16) (λ bytes. bytes) (λ bytes. length bytes ≡ 16) (raw_at 32) (λ bytes. bytes) (λ bytes. length bytes ≡ 32) (raw_field 16) (raw_field 32))
 
 abbrev call_at : List ℕ → Result ((ℕ × (ObjId × (ℕ × (ℕ × List Value)))) × List ℕ) WireFault
@@ -93,7 +93,7 @@ number_of kinds.Lookup = 11
 
 pub fields_takes : (kind : FrameKind) (bytes : List ℕ) (x : Message × List ℕ) → IsBytes bytes → fields_at kind bytes ≡ Ok x → Takes body IsInRange (number_of kind ∷ bytes) x
 unfolding fields_at body IsInRange
-fields_takes kinds.Hello bytes x h e = headed_takes hello_at (λ x. (x.0 ∷ []) ++ (x.1.0 ++ x.1.1)) (λ x. (x.0 ≡ 1) × ((length x.1.0 ≡ 16) × (length x.1.1 ≡ 32))) (λ x. Hello x.0 x.1.0 x.1.1) 1 body IsInRange hello_field
+fields_takes kinds.Hello bytes x h e = headed_takes hello_at (λ x. (x.0 ∷ []) ++ (x.1.0 ++ x.1.1)) (λ x. IsVersion x.0 × ((length x.1.0 ≡ 16) × (length x.1.1 ≡ 32))) (λ x. Hello x.0 x.1.0 x.1.1) 1 body IsInRange hello_field
     (λ a fits. refl) (λ a fits. (fits.0, fits.1.0, fits.1.1)) bytes x h e
 fields_takes kinds.Call bytes x h e = headed_takes call_at (λ x. number_bytes 8 x.0 ++ (id_bytes x.1.0 ++ (number_bytes 4 x.1.1.0 ++ (number_bytes 8 x.1.1.1.0 ++ row_bytes 1 value_bytes x.1.1.1.1))))
     (λ x. FitsBytes 8 x.0 × (IsId x.1.0 × (FitsBytes 4 x.1.1.0 × (FitsBytes 8 x.1.1.1.0 × AreArguments x.1.1.1.1)))) (λ x. Call x.0 x.1.0 x.1.1.0 x.1.1.1.0 x.1.1.1.1) 2 body IsInRange call_field
@@ -116,7 +116,7 @@ fields_takes kinds.Lookup bytes x h e = headed_takes (and_then name_at) (λ x. n
 
 pub fields_fails : (kind : FrameKind) (bytes : List ℕ) (fault : WireFault) → fields_at kind bytes ≡ Err fault → fault ≡ faults.Body
 unfolding fields_at
-fields_fails kinds.Hello bytes fault e = shown_fails hello_at (λ x. (x.0 ∷ []) ++ (x.1.0 ++ x.1.1)) (λ x. (x.0 ≡ 1) × ((length x.1.0 ≡ 16) × (length x.1.1 ≡ 32))) (λ x. Hello x.0 x.1.0 x.1.1) hello_field bytes fault e
+fields_fails kinds.Hello bytes fault e = shown_fails hello_at (λ x. (x.0 ∷ []) ++ (x.1.0 ++ x.1.1)) (λ x. IsVersion x.0 × ((length x.1.0 ≡ 16) × (length x.1.1 ≡ 32))) (λ x. Hello x.0 x.1.0 x.1.1) hello_field bytes fault e
 fields_fails kinds.Call bytes fault e = shown_fails call_at (λ x. number_bytes 8 x.0 ++ (id_bytes x.1.0 ++ (number_bytes 4 x.1.1.0 ++ (number_bytes 8 x.1.1.1.0 ++ row_bytes 1 value_bytes x.1.1.1.1))))
     (λ x. FitsBytes 8 x.0 × (IsId x.1.0 × (FitsBytes 4 x.1.1.0 × (FitsBytes 8 x.1.1.1.0 × AreArguments x.1.1.1.1)))) (λ x. Call x.0 x.1.0 x.1.1.0 x.1.1.1.0 x.1.1.1.1) call_field bytes fault e
 fields_fails kinds.Returned bytes fault e = shown_fails (and_then (and_then result_at)) (λ x. number_bytes 8 x.0 ++ (number_bytes 8 x.1.0 ++ result_bytes x.1.1)) (λ x. FitsBytes 8 x.0 × (FitsBytes 8 x.1.0 × IsResult x.1.1)) (λ x. Returned x.0 x.1.0 x.1.1) returned_field bytes fault e
@@ -132,7 +132,7 @@ fields_fails kinds.Lookup bytes fault e = shown_fails (and_then name_at) (λ x. 
 -- what is in range and spelled is read
 pub message_again : (message : Message) (rest : List ℕ) → IsInRange message → message_at (body message ++ rest) ≡ Ok (message, rest)
 unfolding message_at fields_at body IsInRange
-message_again (Hello version space digest) rest fits = shown_again hello_at (λ x. (x.0 ∷ []) ++ (x.1.0 ++ x.1.1)) (λ x. (x.0 ≡ 1) × ((length x.1.0 ≡ 16) × (length x.1.1 ≡ 32))) (λ x. Hello x.0 x.1.0 x.1.1) hello_field (version, (space, digest)) rest (fits.0, (fits.1, fits.2))
+message_again (Hello version space digest) rest fits = shown_again hello_at (λ x. (x.0 ∷ []) ++ (x.1.0 ++ x.1.1)) (λ x. IsVersion x.0 × ((length x.1.0 ≡ 16) × (length x.1.1 ≡ 32))) (λ x. Hello x.0 x.1.0 x.1.1) hello_field (version, (space, digest)) rest (fits.0, (fits.1, fits.2))
 message_again (Call number object method fuel arguments) rest fits = shown_again call_at (λ x. number_bytes 8 x.0 ++ (id_bytes x.1.0 ++ (number_bytes 4 x.1.1.0 ++ (number_bytes 8 x.1.1.1.0 ++ row_bytes 1 value_bytes x.1.1.1.1))))
     (λ x. FitsBytes 8 x.0 × (IsId x.1.0 × (FitsBytes 4 x.1.1.0 × (FitsBytes 8 x.1.1.1.0 × AreArguments x.1.1.1.1)))) (λ x. Call x.0 x.1.0 x.1.1.0 x.1.1.1.0 x.1.1.1.1) call_field (number, (object, (method, (fuel, arguments)))) rest (fits.0, (fits.1, (fits.2, (fits.3, fits.4))))
 message_again (Returned number fuel value) rest fits = shown_again (and_then (and_then result_at)) (λ x. number_bytes 8 x.0 ++ (number_bytes 8 x.1.0 ++ result_bytes x.1.1)) (λ x. FitsBytes 8 x.0 × (FitsBytes 8 x.1.0 × IsResult x.1.1)) (λ x. Returned x.0 x.1.0 x.1.1) returned_field (number, (fuel, value)) rest (fits.0, (fits.1, fits.2))

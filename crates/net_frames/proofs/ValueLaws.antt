@@ -91,9 +91,9 @@ arguments_field = refit (row_at (is_within 0 255) 1 value_at) (row_bytes 1 value
 
 pub objects_field : IsField objects_at (row_bytes 2 id_bytes) AreObjects
 unfolding objects_at
-objects_field = refit (row_at (is_within 1 1024) 2 id_at) (row_bytes 2 id_bytes) (λ xs. FitsBytes 2 (length xs) × (is_within 1 1024 (length xs) ≡ true) × AllByRecursion IsId xs) AreObjects
-    (row_field (is_within 1 1024) 2 id_at id_bytes IsId width2 id_field)
-    (λ xs fits. let p = within_true 1 1024 (length xs) fits.1 in (p.0, p.1, fits.2)) (λ xs fits. (omega (arith, fits.1), true_within 1 1024 (length xs) fits.0 fits.1, fits.2))
+objects_field = refit (row_at (is_within 1 4096) 2 id_at) (row_bytes 2 id_bytes) (λ xs. FitsBytes 2 (length xs) × (is_within 1 4096 (length xs) ≡ true) × AllByRecursion IsId xs) AreObjects
+    (row_field (is_within 1 4096) 2 id_at id_bytes IsId width2 id_field)
+    (λ xs fits. let p = within_true 1 4096 (length xs) fits.1 in (p.0, p.1, fits.2)) (λ xs fits. (omega (arith, fits.1), true_within 1 4096 (length xs) fits.0 fits.1, fits.2))
 
 -- ---- results, flags and names
 

@@ -107,7 +107,7 @@ unfoldable pub result_at : List ℕ → Result (Option Value × List ℕ) WireFa
 result_at bytes = byte_at bytes >>= λ count. counted_result_at count.0 count.1
 
 unfoldable pub objects_at : List ℕ → Result (List ObjId × List ℕ) WireFault
-objects_at bytes = row_at (is_within 1 1024) 2 id_at bytes
+objects_at bytes = row_at (is_within 1 4096) 2 id_at bytes
 
 unfoldable pub flag_at : List ℕ → Result (Bool × List ℕ) WireFault
 flag_at bytes = shown (λ flag. flag == 1) (tested (is_within 0 1) byte_at) bytes
@@ -120,7 +120,7 @@ name_at bytes = tested is_name (λ bytes. byte_at bytes >>= λ count. raw_at cou
 
 -- what the fields of a kind say
 unfoldable pub fields_at : FrameKind → List ℕ → Result (Message × List ℕ) WireFault
-fields_at kinds.Hello bytes = shown (λ x. Hello x.0 x.1.0 x.1.1) (both (tested (is_within 1 1) byte_at) (both (raw_at 16) (raw_at 32))) bytes
+fields_at kinds.Hello bytes = shown (λ x. Hello x.0 x.1.0 x.1.1) (both (tested (is_within 1 2) byte_at) (both (raw_at 16) (raw_at 32))) bytes
 fields_at kinds.Call bytes =
     shown (λ x. Call x.0 x.1.0 x.1.1.0 x.1.1.1.0 x.1.1.1.1) (both (number_at 8) (both id_at (both (number_at 4) (both (number_at 8) arguments_at)))) bytes
 fields_at kinds.Returned bytes = shown (λ x. Returned x.0 x.1.0 x.1.1) (both (number_at 8) (both (number_at 8) result_at)) bytes

@@ -18,7 +18,7 @@ fn hello_of(bytes: &[u8]) -> Result<(Message, &[u8]), WireError>
     ensures { Gives (λ x. (x.0, x.1.now)) result (fields_at kinds.Hello bytes.now) }
 {
     let (version, rest) = byte_of(bytes)?;
-    if version != 1 {
+    if version < 1 || version > 2 {
         return Err(WireError::Fault(WireFault::Body));
     }
     let (space, rest) = space_of(rest)?;

@@ -235,7 +235,7 @@ pub(crate) fn objects_of(alloc: Global, bytes: &[u8]) -> Result<(Row<ObjId>, &[u
     ensures { Gives (λ x. (x.0, x.1.now)) result (objects_at bytes.now) }
 {
     let (count, rest) = u16_of(bytes)?;
-    if count < 1 || count > 1024 {
+    if count < 1 || count > 4096 {
         return Err(WireError::Fault(WireFault::Body));
     }
     let (ids, rest) = counted_ids(alloc, count, rest)?;

@@ -1,5 +1,5 @@
-//! Frames of the protocol between spaces, version 1 (a format of this project): reading them from a
-//! stream that comes in pieces. `net_message` has what a frame says and how it is spelled; its
+//! Frames of the protocol between spaces, versions 1 and 2 (a format of this project): reading them
+//! from a stream that comes in pieces. `net_message` has what a frame says and how it is spelled; its
 //! names are exported here too.
 #![tactic(auto)]
 

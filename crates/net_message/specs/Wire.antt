@@ -1,4 +1,4 @@
--- The wire format, version 1 (a format of this project): the spelling of each kind of frame, and the ranges of its fields.
+-- The wire format, versions 1 and 2 (a format of this project): the spelling of each kind of frame, and the ranges of its fields.
 use Rattle.std.specs.Prelude.{◌≡◌, ℕ, ◌^◌, ◌<◌, ◌≤◌, nat_le, ◌==◌, ◌&&◌, ◌||◌, IsTrue, ℤ, List, [], ◌∷◌, ◌++◌, length, Option, Some, None, IfSome, Bool, true, false, FitsSigned}
 use Rattle.std.specs.Int.{w32, cast_unsigned}
 use Rattle.std.specs.List.{flat_map, list_all, AllByRecursion}
@@ -106,9 +106,9 @@ IsValue (values.Ref r) = IsReference r
 abbrev pub AreArguments : List Value → Type 0
 AreArguments arguments = (length arguments ≤ 255) × AllByRecursion IsValue arguments
 
--- 1 to 1,024 objects
+-- 1 to 4,096 objects
 abbrev pub AreObjects : List ObjId → Type 0
-AreObjects objects = (1 ≤ length objects) × (length objects ≤ 1024) × AllByRecursion IsId objects
+AreObjects objects = (1 ≤ length objects) × (length objects ≤ 4096) × AllByRecursion IsId objects
 
 abbrev pub is_within : ℕ → ℕ → ℕ → Bool
 is_within low high b = nat_le low b && nat_le b high
@@ -117,9 +117,13 @@ is_within low high b = nat_le low b && nat_le b high
 abbrev pub IsName : List ℕ → Type 0
 IsName name = (1 ≤ length name) × (length name ≤ 255) × AllByRecursion (λ b. IsTrue (is_name_byte b)) name
 
+-- the versions of the protocol: 1 and 2
+abbrev pub IsVersion : ℕ → Type 0
+IsVersion version = (1 ≤ version) × (version ≤ 2)
+
 -- each field of the message is in its range
 unfoldable pub IsInRange : Message → Type 0
-IsInRange (Hello version space digest) = (version ≡ 1) × (length space ≡ 16) × (length digest ≡ 32)
+IsInRange (Hello version space digest) = IsVersion version × (length space ≡ 16) × (length digest ≡ 32)
 IsInRange (Call number object method fuel arguments) =
     FitsBytes 8 number × IsId object × FitsBytes 4 method × FitsBytes 8 fuel × AreArguments arguments
 IsInRange (Returned number fuel value) = FitsBytes 8 number × FitsBytes 8 fuel × IfSome value IsValue

@@ -6,7 +6,7 @@ ghost use Rattle.net_message.specs.Wire.{body, IsInRange};
 use crate::fault::WireFault;
 use crate::length::body_len;
 use crate::message::{Digest, Message};
-use crate::ranges::{are_arguments, are_objects, is_name, is_result, is_space};
+use crate::ranges::{are_arguments, are_objects, is_name, is_result, is_space, is_version};
 use space_ids::{ClassId, ObjId, Row, Uuid, Value};
 use std::marker::Model;
 
@@ -42,12 +42,12 @@ impl Frame {
     }
 
     /// Returns the Hello that says who speaks: the protocol's version, the space and its classes'
-    /// digest. Fault 72 for a version that is not 1.
+    /// digest. Fault 72 for a version other than 1 and 2.
     #[tactic(auto, unfolding(crate::specs::Wire::IsInRange))]
     pub fn hello(version: u8, space: Uuid, digest: Digest) -> Result<Frame, WireFault>
         ensures { MakesFrame (Hello version space digest) result }
     {
-        if version != 1 || !is_space(&space) {
+        if !is_version(version) || !is_space(&space) {
             return Err(WireFault::Body);
         }
         let message = Message::Hello {
@@ -129,7 +129,7 @@ impl Frame {
         }
     }
 
-    /// Returns a Dirty, with its period in milliseconds. Fault 72 for no object or more than 1,024.
+    /// Returns a Dirty, with its period in milliseconds. Fault 72 for no object or more than 4,096.
     #[tactic(auto, unfolding(crate::specs::Wire::IsInRange))]
     pub fn dirty(sequence: u64, period: u64, objects: Row<ObjId>) -> Result<Frame, WireFault>
         ensures { MakesFrame (Dirty sequence period objects) result }
@@ -155,7 +155,7 @@ impl Frame {
         }
     }
 
-    /// Returns a Clean. Fault 72 for no object or more than 1,024.
+    /// Returns a Clean. Fault 72 for no object or more than 4,096.
     #[tactic(auto, unfolding(crate::specs::Wire::IsInRange))]
     pub fn clean(sequence: u64, strong: bool, objects: Row<ObjId>) -> Result<Frame, WireFault>
         ensures { MakesFrame (Clean sequence strong objects) result }

@@ -1,5 +1,5 @@
-//! The messages of the protocol between spaces, version 1 (a format of this project): what a frame
-//! says, the ranges of its fields, and its one spelling in bytes.
+//! The messages of the protocol between spaces, versions 1 and 2 (a format of this project): what a
+//! frame says, the ranges of its fields, and its one spelling in bytes.
 #![tactic(auto)]
 
 pub use base_types::Numbered;

@@ -10,7 +10,7 @@ pub type Digest = [u8; 32];
 /// A `Message` may go past the format's ranges; a `Frame` holds one that keeps them.
 #[derive(Debug, Drop)]
 pub enum Message {
-    /// Who speaks, and over which classes: the protocol's version, which is 1, the space's id, and
+    /// Who speaks, and over which classes: the protocol's version, 1 or 2, the space's id, and
     /// the digest of its class files.
     Hello {
         version: u8,
@@ -45,7 +45,7 @@ pub enum Message {
     Ack {
         number: u64,
     },
-    /// The sender holds references to these 1 to 1,024 objects, and asks for a lease of `period`
+    /// The sender holds references to these 1 to 4,096 objects, and asks for a lease of `period`
     /// milliseconds (Java RMI specification, `DGC.dirty`).
     Dirty {
         sequence: u64,
@@ -57,7 +57,7 @@ pub enum Message {
         sequence: u64,
         period: u64,
     },
-    /// The sender no longer holds references to these 1 to 1,024 objects (Java RMI specification,
+    /// The sender no longer holds references to these 1 to 4,096 objects (Java RMI specification,
     /// `DGC.clean`).
     Clean {
         sequence: u64,

@@ -3,7 +3,7 @@
 ghost use Rattle.std.specs.Prelude.{◌≡◌, ◌↔◌, IsTrue, IfSome, length};
 ghost use Rattle.std.specs.List.{list_all, AllByRecursion};
 ghost use Rattle.registry_names.specs.Names as names;
-ghost use Rattle.net_message.specs.Wire.{AreInts, AreArguments, AreObjects, IsId, IsReference, IsValue, IsName};
+ghost use Rattle.net_message.specs.Wire.{AreInts, AreArguments, AreObjects, IsId, IsReference, IsValue, IsName, IsVersion};
 
 use crate::fault::WireFault;
 use space_ids::{ObjId, Ref, Uuid, Value};
@@ -24,6 +24,12 @@ fn are_ints(ints: &[i32]) -> bool
         let _int = *int;
     }
     ints.len() <= 8000
+}
+
+pub(crate) fn is_version(version: u8) -> bool
+    ensures { IsTrue result ↔ IsVersion version }
+{
+    1 <= version && version <= 2
 }
 
 fn is_sixteen_bytes(bytes: &[u8; 16]) -> bool
@@ -109,5 +115,5 @@ fn are_ids(ids: &[ObjId]) -> bool
 pub(crate) fn are_objects(objects: &[ObjId]) -> bool
     ensures { IsTrue result ↔ AreObjects objects.now }
 {
-    !objects.is_empty() && objects.len() <= 1024 && are_ids(objects)
+    !objects.is_empty() && objects.len() <= 4096 && are_ids(objects)
 }

@@ -192,7 +192,7 @@ fn put_each_id(out: &mut BytesMut, ids: &[ObjId])
 }
 
 fn put_objects(out: &mut BytesMut, objects: &[ObjId])
-    requires short { length objects.now ≤ 1024 }
+    requires short { length objects.now ≤ 4096 }
     requires room { 2 + 8 * length objects.now ≤ out.old.spare }
     ensures items { out.new.items ≡ out.old.items ++ row_bytes 2 id_bytes objects.now }
     ensures spare { out.new.spare + (2 + 8 * length objects.now) ≡ out.old.spare }

@@ -37,7 +37,7 @@ use Rattle.sp_rules.specs.Space
 use Rattle.sp_rules.specs.State
 use Rattle.sp_rules.specs.State.{State, Request, Asked, Calls, LooksUp, Tells, Stage, Waits, Out, Answered, Origin, OfRoot, OfCall, Living, Until, Connection, Frame, CallFrame, ReturnedFrame, ParkedFrame, task_at, ready_at, set_task, send, is_open, object_at, connection_at, connection_to}
 use Rattle.sp_rules.proofs.FuelSums.{total-snoc, total-filter, total-find, total-map, value_in, found-value}
-use Rattle.sp_rules.proofs.FuelOfTasks.{Within, if_within, more, some_within, each_same, say_within, send_within, hold_within, drop_within, plus-zero, flush_within, add_task_within, back, reply_to_within, give_back_within, commit_within, park_call_within, finish_within}
+use Rattle.sp_rules.proofs.FuelOfTasks.{Within, if_within, more, some_within, each_same, say_within, send_within, hold_within, drop_within, plus-zero, dial_within, flush_within, add_task_within, back, reply_to_within, give_back_within, commit_within, park_call_within, finish_within}
 
 -- ---- connections
 
@@ -147,16 +147,27 @@ end_requests_within g is why e =
     each_same _ _ (λ t q h. end_asked_within g (why q.asked) q.asked h)
     (each_same _ _ (λ t q h. end_asked_within g (why q.asked) q.asked h) (remove_within is e))
 
+let_connection_go_within : {n : ℕ} {s : State} (conn : ℕ) → Within n s → Within n (Endings.let_connection_go conn s)
+let_connection_go_within conn e = each_same _ _ (λ t p h. let_go_within p t.parked (take_within p h)) (record { bound = e.bound })
+
 pub end_connection_within : {n : ℕ} {s : State} (g : Setting) (why : Asked → ClassId) (conn : ℕ) → Within n s → Within n (Endings.end_connection g why conn s)
 unfolding Endings.end_connection
-end_connection_within {n} {s} g why conn e = some_within (connection_at s conn) _ e (λ c is. end_requests_within g _ why
-    (each_same _ _ (λ t p h. let_go_within p t.parked (take_within p h)) (record { bound = e.bound })))
+end_connection_within {n} {s} g why conn e = some_within (connection_at s conn) _ e (λ c is. end_requests_within g _ why (let_connection_go_within conn e))
 
 pub close_within : {n : ℕ} {s : State} (g : Setting) (class : ClassId) (conn : ℕ) → Within n s → Within n (Endings.close g class conn s)
 unfolding Endings.close
 close_within g class conn e = plus-zero (say_within (Close conn) (end_connection_within g (λ asked. class) conn e))
 
+redial_within : {n : ℕ} {s : State} (peer : Uuid) (conn : ℕ) → Within n s → Within n (Endings.redial peer conn s)
+unfolding Endings.redial
+redial_within {n} {s} peer conn e = dial_within peer (plus-zero (say_within (Close conn) (let_connection_go_within {n = n} {s = Endings.note_peer peer s} conn (record { bound = e.bound }))))
+
 -- ---- frames
+
+say_hello_within : {n : ℕ} {s : State} (g : Setting) (version conn : ℕ) → Within n s → Within n (Frames.say_hello g version conn s)
+say_hello_within {n} {s} g version conn e =
+    let said : Within n (send Hellos conn (message.Hello version g.id g.digest) s) = plus-zero (send_within {n = n} Hellos conn (message.Hello version g.id g.digest) e) in
+    record { bound = said.bound }
 
 pub first_frame_within : {n : ℕ} {s : State} (g : Setting) (c : Connection) (m : Message) → Within n s → Within n (Frames.first_frame g c m s)
 unfolding Frames.first_frame
@@ -165,12 +176,13 @@ first_frame_within {n} {s} g c (message.Hello version space digest) e = some_wit
     known : Within n (Frames.greeted space c.number s)
     known = record { bound = e.bound }
 
-    accepts : (b : Bool) → Within n (if b then Frames.greeted space c.number s else Endings.close g g.classes.unmarshal c.number s)
-    accepts true = known
+    accepts : (b : Bool) → Within n (if b then Frames.answer_hello g version c.number (Frames.greeted space c.number s) else Endings.close g g.classes.unmarshal c.number s)
+    accepts true = if_within (nat_le 2 g.version) (say_hello_within g _ c.number known) known
     accepts false = close_within g _ c.number e
 
-    dials : (peer : Uuid) (b : Bool) → Within n (if b then flush_waiting peer c.number (Frames.greeted space c.number s) else Endings.close g g.classes.connect c.number s)
-    dials peer true = flush_within peer c.number known
+    dials : (peer : Uuid) (b : Bool) → Within n (if b then Frames.answered_hello g c peer version space s else Endings.close g g.classes.connect c.number s)
+    dials peer true = if_within (version == c.version) (flush_within peer c.number known)
+        (if_within (nat_le 2 c.version && version == 1) (redial_within peer c.number e) (close_within g _ c.number e))
     dials peer false = close_within g _ c.number e
 first_frame_within g c _ e = close_within g _ c.number e
 
@@ -279,9 +291,9 @@ got_within g c (message.Returned number fuel value) e = answered_by_within fuel 
 got_within g c (message.Threw number class) e = answered_by_within 0 g c number _ (λ asked. ends_as_within g c number (λ a. Frames.thrown_reply g class) asked refl e) e
 got_within g c (message.Spent number) e = answered_by_within 0 g c number _ (λ asked. ends_as_within g c number (Frames.spent_reply g) asked (spent-back g asked) e) e
 got_within g c (message.Ack number) e = more 0 (got_ack_within g c number e)
-got_within {n} g c (message.Dirty sequence period objects) e = more 0 (plus-zero (send_within {n = n} Replies c.number (message.Lease sequence (min period 600000)) (record { bound = e.bound })))
+got_within {n} g c (message.Dirty sequence period objects) e = more 0 (if_within (Frames.fit_frame c objects) (plus-zero (send_within {n = n} Replies c.number (message.Lease sequence (min period 600000)) (record { bound = e.bound }))) (close_within g _ c.number e))
 got_within g c (message.Lease sequence period) e = more 0 (told_by_within g c true sequence _ e)
-got_within {n} g c (message.Clean sequence strong objects) e = more 0 (plus-zero (send_within {n = n} Replies c.number (message.Cleaned sequence) (record { bound = e.bound })))
+got_within {n} g c (message.Clean sequence strong objects) e = more 0 (if_within (Frames.fit_frame c objects) (plus-zero (send_within {n = n} Replies c.number (message.Cleaned sequence) (record { bound = e.bound }))) (close_within g _ c.number e))
 got_within g c (message.Cleaned sequence) e = more 0 (told_by_within g c false sequence _ e)
 got_within g c (message.Lookup number name) e = more 0 (got_lookup_within g c number name e)
 
@@ -298,8 +310,12 @@ receive_within {n} {s} g c m e = cases (is_none c.peer) _
 
 pub opened_within : {n : ℕ} {s : State} (g : Setting) (conn : ℕ) (dialled : Option Uuid) → Within n s → Within n (OwnEvents.on_opened g conn dialled s)
 unfolding OwnEvents.on_opened
-opened_within {n} g conn None e = plus-zero (send_within {n = n} Hellos conn (message.Hello 1 g.id g.digest) (record { bound = e.bound }))
-opened_within {n} g conn (Some peer) e = plus-zero (send_within {n = n} Hellos conn (message.Hello 1 g.id g.digest) (record { bound = e.bound }))
+opened_within {n} {s} g conn None e =
+    let row : Within n (OwnEvents.add_connection conn None s) = record { bound = e.bound } in
+    if_within (nat_le 2 g.version) row (say_hello_within g 1 conn row)
+opened_within {n} {s} g conn (Some peer) e =
+    let row : Within n (OwnEvents.dialled_no_more (Some peer) (OwnEvents.add_connection conn (Some peer) s)) = record { bound = e.bound } in
+    say_hello_within g _ conn row
 
 pub refused_within : {n : ℕ} {s : State} (g : Setting) (peer : Uuid) → Within n s → Within n (OwnEvents.on_refused g peer s)
 unfolding OwnEvents.on_refused

@@ -1,6 +1,6 @@
 -- The names and the entries of a space are what its history makes of them.
 use mathlib.Core.Path.{sym, ap, ◌∙◌}
-use Rattle.std.specs.Prelude.{◌≡◌, refl, ℕ, Bool, true, false, List, [], ◌∷◌, Option, None, Some, Result, Ok, Err, fold, map, nat_lt, if◌then◌else◌}
+use Rattle.std.specs.Prelude.{◌≡◌, refl, ℕ, Bool, true, false, List, [], ◌∷◌, Option, None, Some, Result, Ok, Err, fold, map, length, nat_le, nat_lt, if◌then◌else◌}
 use Rattle.std.proofs.lemmas.Bool.{true≢false}
 use Rattle.dgc_list.specs.History as owner
 use Rattle.dgc_list.proofs.LawsLemmas.{own-remembered}
@@ -15,8 +15,9 @@ use Rattle.sp_rules.specs.Classes.{Setting}
 use Rattle.sp_rules.specs.Events.{Event, Moment, Sweep, Root, RootAck, Bind, Rebind, Unbind, Lookup, Opened, Refused, Received, Closed, ReadFailed, Bad, WriteFailed, Committed, Parked, GivenBack, Finished}
 use Rattle.sp_rules.specs.Frames
 use Rattle.sp_rules.specs.Holders
-use Rattle.sp_rules.specs.Laws.{tells_owner, leaves_owner, is_naming, unless_denied, named_by, NamesAreBound, told_from, told_on, told_by, told_after, EntriesAreTold}
+use Rattle.sp_rules.specs.Laws.{tells_owner, leaves_owner, is_naming, unless_denied, named_by, NamesAreBound, told_from, told_on, is_short, told_by, told_after, EntriesAreTold}
 use Rattle.sp_rules.specs.Lists.{each}
+use Rattle.sp_rules.specs.Requests.{most_ids}
 use Rattle.sp_rules.specs.OwnEvents
 use Rattle.sp_rules.specs.Space
 use Rattle.sp_rules.specs.State
@@ -180,35 +181,48 @@ silent (Some client) None s (message.Clean sequence strong objects) calls no-tel
 silent (Some client) None s (message.Cleaned sequence) calls no-tell = refl
 silent (Some client) None s (message.Lookup number name) calls no-tell = refl
 
-row : ℕ → Option Uuid → Option Uuid → ℕ → List Message → Connection
-row number dialled peer last sent = record { number = number; dialled = dialled; peer = peer; last = last; sent = sent }
+row : ℕ → Option Uuid → Option Uuid → ℕ → ℕ → List Message → Connection
+row number dialled peer version last sent = record { number = number; dialled = dialled; peer = peer; version = version; last = last; sent = sent }
+
+-- what is told whether or not a frame is short enough
+told-either : (b : Bool) {told calls : List owner.Call} → told ≡ calls → (if b then told else calls) ≡ calls
+told-either true e = e
+told-either false e = refl
 
 closed : (g : Setting) (s : State) (class : Rattle.space_ids.specs.declared.ids.ClassId.ClassId) (conn : ℕ) → (Rattle.sp_rules.specs.Endings.close g class conn s).owner.entries ≡ s.owner.entries
 closed g s class conn = close_keeps (entries-stable g s.owner.entries) {s = s} class conn refl
 
-dirty-tells : (g : Setting) (s : State) (number last : ℕ) (dialled peer : Option Uuid) (sent : List Message) (sequence period : ℕ) (ids : List ObjId)
-    → (Frames.receive g (row number dialled peer last sent) (message.Dirty sequence period ids) s).owner.entries ≡ told_from peer dialled s (message.Dirty sequence period ids) s.owner.entries
-unfolding Frames.receive Frames.first_frame Frames.got Frames.got_dirty row
-dirty-tells g s number last dialled None sent sequence period ids = closed g s _ number
-dirty-tells g s number last (Some to) (Some client) sent sequence period ids = closed g s _ number
-dirty-tells g s number last None (Some client) sent sequence period ids = send_keeps (entries-framed _) _ number _ refl
+-- A dirty or clean call that is taken is told; one of too many ids is not, and closes the connection.
+took-or-closed : (g : Setting) (s t : State) (number : ℕ) (calls : List owner.Call) (b : Bool) → t.owner.entries ≡ calls
+    → (if b then t else Rattle.sp_rules.specs.Endings.close g g.classes.unmarshal number s).owner.entries ≡ (if b then calls else s.owner.entries)
+took-or-closed g s t number calls true e = e
+took-or-closed g s t number calls false e = closed g s _ number
 
-clean-tells : (g : Setting) (s : State) (number last : ℕ) (dialled peer : Option Uuid) (sent : List Message) (sequence : ℕ) (strong : Bool) (ids : List ObjId)
-    → (Frames.receive g (row number dialled peer last sent) (message.Clean sequence strong ids) s).owner.entries ≡ told_from peer dialled s (message.Clean sequence strong ids) s.owner.entries
+dirty-tells : (g : Setting) (s : State) (number version last : ℕ) (dialled peer : Option Uuid) (sent : List Message) (sequence period : ℕ) (ids : List ObjId)
+    → (Frames.receive g (row number dialled peer version last sent) (message.Dirty sequence period ids) s).owner.entries
+    ≡ told_on s (Some (row number dialled peer version last sent)) (message.Dirty sequence period ids) s.owner.entries
+unfolding Frames.receive Frames.first_frame Frames.got Frames.got_dirty row
+dirty-tells g s number version last dialled None sent sequence period ids = closed g s _ number ∙ sym (told-either (nat_le (length ids) (most_ids version)) refl)
+dirty-tells g s number version last (Some to) (Some client) sent sequence period ids = closed g s _ number ∙ sym (told-either (nat_le (length ids) (most_ids version)) refl)
+dirty-tells g s number version last None (Some client) sent sequence period ids = took-or-closed g s _ number _ (nat_le (length ids) (most_ids version)) (send_keeps (entries-framed _) _ number _ refl)
+
+clean-tells : (g : Setting) (s : State) (number version last : ℕ) (dialled peer : Option Uuid) (sent : List Message) (sequence : ℕ) (strong : Bool) (ids : List ObjId)
+    → (Frames.receive g (row number dialled peer version last sent) (message.Clean sequence strong ids) s).owner.entries
+    ≡ told_on s (Some (row number dialled peer version last sent)) (message.Clean sequence strong ids) s.owner.entries
 unfolding Frames.receive Frames.first_frame Frames.got Frames.got_clean row
-clean-tells g s number last dialled None sent sequence strong ids = closed g s _ number
-clean-tells g s number last (Some to) (Some client) sent sequence strong ids = closed g s _ number
-clean-tells g s number last None (Some client) sent sequence strong ids = send_keeps (entries-framed _) _ number _ refl
+clean-tells g s number version last dialled None sent sequence strong ids = closed g s _ number ∙ sym (told-either (nat_le (length ids) (most_ids version)) refl)
+clean-tells g s number version last (Some to) (Some client) sent sequence strong ids = closed g s _ number ∙ sym (told-either (nat_le (length ids) (most_ids version)) refl)
+clean-tells g s number version last None (Some client) sent sequence strong ids = took-or-closed g s _ number _ (nat_le (length ids) (most_ids version)) (send_keeps (entries-framed _) _ number _ refl)
 
 quiet : (g : Setting) (s : State) (c : Connection) (m : Message) → tells_owner m ≡ false → (Frames.receive g c m s).owner.entries ≡ told_on s (Some c) m s.owner.entries
 quiet g s c m no-tell =
     receive_keeps (entries-stable g s.owner.entries) {s = s} c m (λ t. absurd (true≢false (sym t ∙ no-tell))) refl
-    ∙ sym (silent c.peer c.dialled s m s.owner.entries no-tell)
+    ∙ sym (told-either (is_short c m) (silent c.peer c.dialled s m s.owner.entries no-tell))
 
 receive-tells : (g : Setting) (s : State) (c : Connection) (m : Message) → (Frames.receive g c m s).owner.entries ≡ told_on s (Some c) m s.owner.entries
 unfolding row
-receive-tells g s c (message.Dirty sequence period ids) = dirty-tells g s c.number c.last c.dialled c.peer c.sent sequence period ids
-receive-tells g s c (message.Clean sequence strong ids) = clean-tells g s c.number c.last c.dialled c.peer c.sent sequence strong ids
+receive-tells g s c (message.Dirty sequence period ids) = dirty-tells g s c.number c.version c.last c.dialled c.peer c.sent sequence period ids
+receive-tells g s c (message.Clean sequence strong ids) = clean-tells g s c.number c.version c.last c.dialled c.peer c.sent sequence strong ids
 receive-tells g s c (message.Hello version space digest) = quiet g s c (message.Hello version space digest) refl
 receive-tells g s c (message.Call number object method fuel arguments) = quiet g s c (message.Call number object method fuel arguments) refl
 receive-tells g s c (message.Returned number fuel value) = quiet g s c (message.Returned number fuel value) refl

@@ -1,10 +1,10 @@
 -- Lines of requests that wait for a peer's Hello, as connections open, change and end.
 use mathlib.Core.Path.{sym, ap, subst, ◌∙◌}
-use Rattle.std.proofs.Common.{inl, inr}
+use Rattle.std.proofs.Common.{inl, inr, arith}
 use Rattle.std.proofs.lemmas.Bool.{true≢false, eq-eqb}
 use Rattle.std.proofs.lemmas.Slice.Eq.{bytes_eq-Decides}
 use Rattle.std.specs.List.{list_any}
-use Rattle.std.specs.Prelude.{◌≡◌, refl, ℕ, ◌==◌, ◌||◌, not, is_some, Bool, true, false, List, [], ◌∷◌, ◌++◌, Option, None, Some, find, if◌then◌else◌, filter, cond, ◌⊎◌}
+use Rattle.std.specs.Prelude.{◌≡◌, refl, ℕ, ◌==◌, ◌||◌, not, is_some, nat_le, ◌≤◌, Bool, true, false, List, [], ◌∷◌, ◌++◌, Option, None, Some, find, if◌then◌else◌, filter, cond, ◌⊎◌}
 use Rattle.std.specs.Str.{bytes_eq}
 use Rattle.space_ids.specs.declared.ids.ForeignId.{ForeignId}
 use Rattle.net_message.specs.declared.message.Message.{Message}
@@ -19,7 +19,7 @@ use Rattle.sp_rules.specs.Laws.{AllOf}
 use Rattle.sp_rules.specs.Lines.{dialled_to, IsAlone, AreDialledOnce, AreOnce, WaitsForHello}
 use Rattle.sp_rules.specs.Lists.{each, with_some, at_first}
 use Rattle.sp_rules.specs.Requests
-use Rattle.sp_rules.specs.State.{State, Request, Connection, is_open, set_connection, send, is_to}
+use Rattle.sp_rules.specs.State.{State, Request, Connection, connection_at, is_open, set_connection, send, is_to}
 
 -- ---- what is kept
 
@@ -258,6 +258,40 @@ gone-others conn (d ∷ cs) c q a e t = pick (d.number == conn) refl e (λ f. go
         ∙ sym (ap (λ x. cond x (Some d) (dialled_to cs q)) (ap (To q) (some-same f) ∙ t))
     pick false is f go = ap (λ x. cond (To q d) (Some d) x) (go f)
 
+-- a connection that is there is to its peer
+pub there-to : (conn : ℕ) (cs : List Connection) (c : Connection) (q : Uuid) → find (λ (d : Connection). d.number == conn) cs ≡ Some c → To q c ≡ true → dialled_to cs q ≡ None → ⊥
+there-to conn [] c q e t n = some-none c (sym e)
+there-to conn (d ∷ cs) c q e t n = pick (d.number == conn) e (none-to d cs q n) (λ f. there-to conn cs c q f t)
+  where
+    pick : (b : Bool) → cond b (Some d) (find (λ (x : Connection). x.number == conn) cs) ≡ Some c → (To q d ≡ false) × (dialled_to cs q ≡ None) → (find (λ (x : Connection). x.number == conn) cs ≡ Some c → dialled_to cs q ≡ None → ⊥) → ⊥
+    pick true f k go = true≢false (sym t ∙ ap (To q) (sym (some-same f)) ∙ k.0)
+    pick false f k go = go f k.1
+
+alone-none : (o : Option Uuid) (cs : List Connection) (q : Uuid) → IsAlone o cs → is_to q o ≡ true → dialled_to cs q ≡ None
+alone-none None cs q a t = absurd (true≢false (sym t))
+alone-none (Some p) cs q a t = subst (λ x. dialled_to cs x ≡ None) (one-peer p q t) a
+
+-- the end of a connection leaves none to its peer
+pub gone-peer : (conn : ℕ) (cs : List Connection) (c : Connection) (q : Uuid) → AreDialledOnce cs → find (λ (d : Connection). d.number == conn) cs ≡ Some c → c.dialled ≡ Some q
+    → dialled_to (filter (λ (d : Connection). not (d.number == conn)) cs) q ≡ None
+gone-peer conn [] c q a e t = refl
+gone-peer conn (d ∷ cs) c q a e t = pick (d.number == conn) e (λ f. gone-peer conn cs c q a.1 f t)
+  where
+    rest : List Connection
+    rest = filter (λ (x : Connection). not (x.number == conn)) cs
+
+    its : To q c ≡ true
+    its = ap (is_to q) t ∙ same-peer q
+
+    pick : (b : Bool) → cond b (Some d) (find (λ (x : Connection). x.number == conn) cs) ≡ Some c → (find (λ (x : Connection). x.number == conn) cs ≡ Some c → dialled_to rest q ≡ None)
+        → dialled_to (cond (not b) (d ∷ rest) rest) q ≡ None
+    pick true f go = filter-none (λ (x : Connection). not (x.number == conn)) cs q (subst (λ o. IsAlone o cs) (ap (λ (x : Connection). x.dialled) (some-same f) ∙ t) a.0)
+    pick false f go = to (To q d) refl
+      where
+        to : (b : Bool) → To q d ≡ b → cond b (Some d) (dialled_to rest q) ≡ None
+        to true z = absurd (there-to conn cs c q f its (alone-none d.dialled cs q a.0 z))
+        to false z = go f
+
 -- ---- a row of a connection is changed, not its number and its peer
 
 pub record IsRow (f : Connection → Connection) : Type 0 where
@@ -344,3 +378,20 @@ row_lines {g} {skip} {s} conn f r keeps h = record {
         )) h.parts.waiting;
   };
 }
+
+-- ---- how many ids a frame names
+
+most-ids-some : (version : ℕ) → 1 ≤ Requests.most_ids version
+most-ids-some version = pick (nat_le 2 version)
+  where
+    pick : (b : Bool) → 1 ≤ (if b then 4096 else 1024)
+    pick true = omega arith
+    pick false = omega arith
+
+-- a frame on a connection may name one at least
+pub most-some : (s : State) (conn : ℕ) → 1 ≤ Requests.most_on s conn
+most-some s conn = pick (connection_at s conn)
+  where
+    pick : (o : Option Connection) → 1 ≤ Requests.most_of o
+    pick None = omega arith
+    pick (Some c) = most-ids-some c.version

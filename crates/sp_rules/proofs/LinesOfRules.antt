@@ -48,7 +48,7 @@ use Rattle.sp_rules.specs.Space
 use Rattle.sp_rules.specs.State as state
 use Rattle.sp_rules.specs.State.{State, Object, Stored, Made, Written, Gone, Living, Origin, OfRoot, OfCall, Until, Request, Asked, Calls, LooksUp, Tells, Stage, Connection, KeptResult, Frame, CallFrame, ReturnedFrame, ParkedFrame, standing, last_written, task_at, ready_at, object_at, connection_at, connection_to, is_open, set_task, set_connection, say, send, tell_owner, is_to, opening}
 use Rattle.sp_rules.specs.Tasks.{Stand, Runs, AsksFor, HasEnded, stand, steps}
-use Rattle.sp_rules.proofs.LineLemmas.{AreNumbered, Lines, none, quiet, if_lines, some_lines, each_lines, send_lines, hold_lines, drop_lines, one-peer, other-way, any-more, any-last, or-none, once-more, once-filter, any-others, To, none-of, to-more, to-last, none-to, filter-none, dialled-filter, numbers-filter, gone-others, IsRow, row-none, row-some, row-hello, row-dialled, row-numbers, row_lines}
+use Rattle.sp_rules.proofs.LineLemmas.{AreNumbered, Lines, none, quiet, if_lines, some_lines, each_lines, send_lines, hold_lines, drop_lines, one-peer, other-way, any-more, any-last, or-none, once-more, once-filter, any-others, To, none-of, to-more, to-last, none-to, filter-none, dialled-filter, numbers-filter, gone-others, gone-peer, IsRow, row-none, row-some, row-hello, row-dialled, row-numbers, row_lines}
 
 -- ---- requests
 
@@ -283,12 +283,12 @@ waits-elsewhere conn (Some peer) r e waits = other-way r.peer peer (pick (bytes_
     pick true false t f = absurd (true≢false (sym t))
     pick false b t f = refl
 
-end_connection_lines : {g : Setting} {s : State} (why : Asked → ClassId) (conn : ℕ) → Lines g none s → Lines g none (Endings.end_connection g why conn s)
-unfolding Endings.end_connection
-end_connection_lines {g} {s = s} why conn h = some_lines (connection_at s conn) _ h (λ c is. end_requests_lines (Endings.is_of_connection conn c.dialled) why (each_lines _ _ (λ t p k. let_go_lines p t.parked (quiet _ refl k)) (without c is)))
+-- a connection goes, and leaves what was asked of its peer without a line
+let_connection_go_lines : {g : Setting} {s : State} (conn : ℕ) (c : Connection) → connection_at s conn ≡ Some c → Lines g none s → Lines g (Endings.is_of_connection conn c.dialled) (Endings.let_connection_go conn s)
+let_connection_go_lines {g} {s} conn c is h = each_lines _ _ (λ t p k. let_go_lines p t.parked (quiet _ refl k)) without
   where
-    without : (c : Connection) → connection_at s conn ≡ Some c → Lines g (Endings.is_of_connection conn c.dialled) (Endings.without_connection conn s)
-    without c is = record {
+    without : Lines g (Endings.is_of_connection conn c.dialled) (Endings.without_connection conn s)
+    without = record {
       parts = record {
         numbers = numbers-filter (λ (d : Connection). not (d.number == conn)) s.connections h.parts.numbers;
         connections = dialled-filter (λ (d : Connection). not (d.number == conn)) s.connections h.parts.connections;
@@ -300,9 +300,89 @@ end_connection_lines {g} {s = s} why conn h = some_lines (connection_at s conn) 
       };
     }
 
+end_connection_lines : {g : Setting} {s : State} (why : Asked → ClassId) (conn : ℕ) → Lines g none s → Lines g none (Endings.end_connection g why conn s)
+unfolding Endings.end_connection
+end_connection_lines {s = s} why conn h = some_lines (connection_at s conn) _ h (λ c is. end_requests_lines (Endings.is_of_connection conn c.dialled) why (let_connection_go_lines conn c is h))
+
 close_lines : {g : Setting} {s : State} (class : ClassId) (conn : ℕ) → Lines g none s → Lines g none (Endings.close g class conn s)
 unfolding Endings.close
 close_lines class conn h = quiet _ refl (end_connection_lines _ conn h)
+
+-- ---- a peer is dialled again
+
+each-connections : {A : Type 0} (f : State → A → State) (xs : List A) (s : State) → ((t : State) (x : A) → (f t x).connections ≡ t.connections) → (each f xs s).connections ≡ s.connections
+unfolding each
+each-connections f [] s k = refl
+each-connections f (x ∷ xs) s k = each-connections f xs (f s x) k ∙ k s x
+
+drop-connections : (ids : List ForeignId) (s : State) → (drop_ids ids s).connections ≡ s.connections
+unfolding drop_ids
+drop-connections ids s = each-connections Holders.holder_goes ids s (λ t x. refl)
+
+-- a connection goes, and no other
+pub left-connections : (conn : ℕ) (s : State) → (Endings.let_connection_go conn s).connections ≡ filter (λ (d : Connection). not (d.number == conn)) s.connections
+left-connections conn s = each-connections Endings.unpark (filter (λ (p : ParkedFrame). p.conn == conn) s.parked) (Endings.without_connection conn s) (λ t p.
+    each-connections (λ u (q : ParkedFrame). drop_ids q.references u) (filter (ParkedFrames.is_parked_at p.conn p.number) t.parked) (ParkedFrames.take_parked p t) (λ u q. drop-connections q.references u))
+
+-- What waits of a connection that goes, waits for its peer.
+theirs-wait : (conn : ℕ) (peer : Uuid) (r : Request) → Endings.is_of_connection conn (Some peer) r ≡ true → Requests.is_waiting r.stage ≡ true → bytes_eq r.peer peer ≡ true
+theirs-wait conn peer r = by r.stage (bytes_eq r.peer peer)
+  where
+    by : (at : Stage) (b : Bool) → ParkedFrames.is_out_on conn at || (b && Requests.is_waiting at) ≡ true → Requests.is_waiting at ≡ true → b ≡ true
+    by state.Waits true e w = refl
+    by state.Waits false e w = e
+    by (state.Out n sequence) b e w = absurd (true≢false (sym w))
+    by (state.Answered n) b e w = absurd (true≢false (sym w))
+
+-- A peer is dialled to which no connection is open. All that had no line waits for it.
+dials_lines : {g : Setting} {skip : Request → Bool} {s : State} (peer : Uuid) → connection_to s peer ≡ None → ((q : Request) → skip q ≡ true → Requests.is_waiting q.stage ≡ true → bytes_eq q.peer peer ≡ true)
+    → Lines g skip s → Lines g none (Requests.dial peer s)
+unfolding Requests.dial
+dials_lines {g} {skip} {s} peer gone theirs h = pick (is_some (connection_to s peer) || state.is_dialling s peer) refl
+  where
+    new : State
+    new = record s { dialling = s.dialling ++ peer ∷ [] }
+
+    waits-for : (ps : List Uuid) → is_some (connection_to s peer) || list_any (bytes_eq peer) ps ≡ true
+        → ((q : Request) → is_some (dialled_to s.connections q.peer) || list_any (bytes_eq q.peer) s.dialling ≡ true → is_some (dialled_to s.connections q.peer) || list_any (bytes_eq q.peer) ps ≡ true)
+        → (q : Request) → (skip q ≡ false → WaitsForHello s.connections s.dialling q) → (b : Bool) → skip q ≡ b → WaitsForHello s.connections ps q
+    waits-for ps there more q w true e waits =
+        subst (λ p. ((is_some (dialled_to s.connections p) || list_any (bytes_eq p) ps) ≡ true) × (Requests.hello_came (dialled_to s.connections p) ≡ None)) (sym (one-peer q.peer peer (theirs q e waits)))
+        (there, ap Requests.hello_came gone)
+    waits-for ps there more q w false e waits = let x = w e waits in (more q x.0, x.1)
+
+    waiting : (ps : List Uuid) → is_some (connection_to s peer) || list_any (bytes_eq peer) ps ≡ true
+        → ((q : Request) → is_some (dialled_to s.connections q.peer) || list_any (bytes_eq q.peer) s.dialling ≡ true → is_some (dialled_to s.connections q.peer) || list_any (bytes_eq q.peer) ps ≡ true)
+        → AllOf (λ q. none q ≡ false → WaitsForHello s.connections ps q) s.requests
+    waiting ps there more = all-weaken (λ q. skip q ≡ false → WaitsForHello s.connections s.dialling q) (λ q. none q ≡ false → WaitsForHello s.connections ps q) s.requests
+        (λ q w out. waits-for ps there more q w (skip q) refl) h.parts.waiting
+
+    more : (b : Bool) (q : Uuid) → b || list_any (bytes_eq q) s.dialling ≡ true → b || list_any (bytes_eq q) (s.dialling ++ peer ∷ []) ≡ true
+    more true q e = refl
+    more false q e = any-more q s.dialling peer e
+
+    dials : (is_some (connection_to s peer) ≡ false) × (state.is_dialling s peer ≡ false) → Lines g none new
+    dials e = record {
+      parts = record {
+        numbers = h.parts.numbers;
+        connections = h.parts.connections;
+        dialling = once-more s.dialling peer h.parts.dialling e.1;
+        apart = all-more (λ p. dialled_to s.connections p ≡ None) s.dialling peer h.parts.apart gone;
+        waiting = waiting (s.dialling ++ peer ∷ []) (or-right (is_some (connection_to s peer)) _ (any-last peer s.dialling)) (λ q f. more (is_some (dialled_to s.connections q.peer)) q.peer f);
+      };
+    }
+
+    pick : (b : Bool) → is_some (connection_to s peer) || state.is_dialling s peer ≡ b → Lines g none (if b then s else say (Dial peer) new)
+    pick true e = record { parts = record { numbers = h.parts.numbers; connections = h.parts.connections; dialling = h.parts.dialling; apart = h.parts.apart; waiting = waiting s.dialling e (λ q f. f) } }
+    pick false e = quiet _ refl (dials (or-none (is_some (connection_to s peer)) (state.is_dialling s peer) e))
+
+redial_lines : {g : Setting} {s : State} (peer : Uuid) (c : Connection) → connection_at s c.number ≡ Some c → c.dialled ≡ Some peer → Lines g none s → Lines g none (Endings.redial peer c.number s)
+unfolding Endings.redial
+redial_lines {g} {s} peer c is e h =
+    dials_lines {skip = Endings.is_of_connection c.number c.dialled} {s = say (Rattle.sp_rules.specs.Events.Close c.number) (Endings.let_connection_go c.number (Endings.note_peer peer s))} peer
+    (ap (λ cs. dialled_to cs peer) (left-connections c.number (Endings.note_peer peer s)) ∙ gone-peer c.number s.connections c peer h.parts.connections is e)
+    (λ q of waits. theirs-wait c.number peer q (ap (λ o. Endings.is_of_connection c.number o q) (sym e) ∙ of) waits)
+    (quiet _ refl (let_connection_go_lines {s = Endings.note_peer peer s} c.number c is (quiet _ refl h)))
 
 -- ---- frames that come
 
@@ -311,6 +391,12 @@ counts-row number = record { number = λ c. refl; dialled = λ c. refl }
 
 counted_lines : {g : Setting} {s : State} (conn number : ℕ) → Lines g none s → Lines g none (Frames.counted conn number s)
 counted_lines conn number h = row_lines conn _ (counts-row number) (λ q c e. inr refl) h
+
+versions-row : (version : ℕ) → IsRow (λ (c : Connection). record c { version = version })
+versions-row version = record { number = λ c. refl; dialled = λ c. refl }
+
+say_hello_lines : {g : Setting} {skip : Request → Bool} {s : State} (version conn : ℕ) → Lines g skip s → Lines g skip (Frames.say_hello g version conn s)
+say_hello_lines {g} version conn h = row_lines conn _ (versions-row version) (λ q c e. inr refl) (send_lines Rattle.sp_rules.specs.Events.Hellos conn (message.Hello version g.id g.digest) h)
 
 greets-row : (space : Uuid) → IsRow (λ (c : Connection). record c { peer = Some space })
 greets-row space = record { number = λ c. refl; dialled = λ c. refl }
@@ -361,10 +447,14 @@ first_lines : {g : Setting} {s : State} (c : Connection) (m : Message) → conne
 unfolding Frames.first_frame
 first_lines {g} {s} c (message.Hello version space digest) is h = pick c.dialled refl
   where
-    pick : (o : Option Uuid) → c.dialled ≡ o → Lines g none (with_some o (if bytes_eq digest g.digest then Frames.greeted space c.number s else Endings.close g g.classes.unmarshal c.number s)
-        (λ peer. if bytes_eq digest g.digest && bytes_eq space peer then Requests.flush_waiting peer c.number (Frames.greeted space c.number s) else Endings.close g g.classes.connect c.number s))
-    pick None e = if_lines (bytes_eq digest g.digest) (greeted_lines space c is e h) (close_lines _ c.number h)
-    pick (Some peer) e = if_lines (bytes_eq digest g.digest && bytes_eq space peer) (flush_lines space peer c is e h) (close_lines _ c.number h)
+    pick : (o : Option Uuid) → c.dialled ≡ o
+        → Lines g none (with_some o (if bytes_eq digest g.digest && nat_le version g.version then Frames.answer_hello g version c.number (Frames.greeted space c.number s) else Endings.close g g.classes.unmarshal c.number s)
+        (λ peer. if bytes_eq digest g.digest && bytes_eq space peer then Frames.answered_hello g c peer version space s else Endings.close g g.classes.connect c.number s))
+    pick None e = if_lines (bytes_eq digest g.digest && nat_le version g.version)
+        (if_lines (nat_le 2 g.version) (say_hello_lines _ c.number (greeted_lines space c is e h)) (greeted_lines space c is e h)) (close_lines _ c.number h)
+    pick (Some peer) e = if_lines (bytes_eq digest g.digest && bytes_eq space peer)
+        (if_lines (version == c.version) (flush_lines space peer c is e h) (if_lines (nat_le 2 c.version && version == 1) (redial_lines peer c is e h) (close_lines _ c.number h)))
+        (close_lines _ c.number h)
 first_lines c (message.Call number object method fuel arguments) is h = close_lines _ c.number h
 first_lines c (message.Returned number fuel value) is h = close_lines _ c.number h
 first_lines c (message.Threw number class) is h = close_lines _ c.number h
@@ -441,9 +531,9 @@ got_lines c (message.Returned number fuel value) h = answered_by_lines c number 
 got_lines {g} c (message.Threw number class) h = answered_by_lines c number _ (λ asked. ends_as_lines c number (λ a. Frames.thrown_reply g class) asked h) h
 got_lines {g} c (message.Spent number) h = answered_by_lines c number _ (λ asked. ends_as_lines c number (Frames.spent_reply g) asked h) h
 got_lines c (message.Ack number) h = got_ack_lines c number h
-got_lines c (message.Dirty sequence period objects) h = send_lines _ c.number _ (quiet _ refl h)
+got_lines c (message.Dirty sequence period objects) h = if_lines (Frames.fit_frame c objects) (send_lines _ c.number _ (quiet _ refl h)) (close_lines _ c.number h)
 got_lines c (message.Lease sequence period) h = told_by_lines c true sequence _ h
-got_lines c (message.Clean sequence strong objects) h = send_lines _ c.number _ (quiet _ refl h)
+got_lines c (message.Clean sequence strong objects) h = if_lines (Frames.fit_frame c objects) (send_lines _ c.number _ (quiet _ refl h)) (close_lines _ c.number h)
 got_lines c (message.Cleaned sequence) h = told_by_lines c false sequence _ h
 got_lines c (message.Lookup number name) h = got_lookup_lines c number name h
 
@@ -516,30 +606,24 @@ dialled-none p connections (q ∷ ps) e a = pick (bytes_eq p q) refl e (λ f. di
     pick false t f rest = rest f
 
 new-row : ℕ → Option Uuid → Connection
-new-row conn dialled = record { number = conn; dialled = dialled; peer = None; last = 0; sent = [] }
+new-row conn dialled = record { number = conn; dialled = dialled; peer = None; version = 1; last = 0; sent = [] }
 
 opened_lines : {g : Setting} {s : State} (conn : ℕ) (dialled : Option Uuid) → is_open s conn ≡ false → Refusals.was_asked s dialled ≡ true → Lines g none s → Lines g none (OwnEvents.on_opened g conn dialled s)
 unfolding OwnEvents.on_opened new-row
-opened_lines {g} {s} conn None shut asked h = send_lines _ conn _ (record {
-  parts = record {
-    numbers = numbers-more s.connections (new-row conn None) h.parts.numbers (new-number conn s.connections shut);
-    connections = dialled-more s.connections (new-row conn None) h.parts.connections (all-weaken (λ (d : Connection). (d.number == conn) ≡ false) _ s.connections (λ d f q is. refl) (new-number conn s.connections shut));
-    dialling = h.parts.dialling;
-    apart = all-weaken (λ peer. dialled_to s.connections peer ≡ None) _ s.dialling (λ peer e. to-more s.connections (new-row conn None) peer refl ∙ e) h.parts.apart;
-    waiting = all-weaken (λ q. none q ≡ false → WaitsForHello s.connections s.dialling q) _ s.requests (λ q w out waits. let x = w out waits in
-        (ap (λ o. is_some o || list_any (bytes_eq q.peer) s.dialling) (to-more s.connections (new-row conn None) q.peer refl) ∙ x.0, ap Requests.hello_came (to-more s.connections (new-row conn None) q.peer refl) ∙ x.1)) h.parts.waiting;
-  };
-})
-opened_lines {g} {s} conn (Some p) shut asked h = send_lines _ conn _ (record {
-  parts = record {
-    numbers = numbers-more s.connections (new-row conn (Some p)) h.parts.numbers (new-number conn s.connections shut);
-    connections = dialled-more s.connections (new-row conn (Some p)) h.parts.connections (all-others p s.connections alone);
-    dialling = once-filter (λ q. not (bytes_eq p q)) s.dialling h.parts.dialling;
-    apart = all-weaken (λ peer. (dialled_to s.connections peer ≡ None) × (not (bytes_eq p peer) ≡ true)) _ _ (λ peer e. to-more s.connections (new-row conn (Some p)) peer (not-is-true (bytes_eq p peer) e.1) ∙ e.0)
-        (all-both-filter (λ peer. dialled_to s.connections peer ≡ None) (λ q. not (bytes_eq p q)) s.dialling h.parts.apart);
-    waiting = all-weaken (λ q. none q ≡ false → WaitsForHello s.connections s.dialling q) _ s.requests (λ q w out waits. still q (w out waits) (bytes_eq p q.peer) refl) h.parts.waiting;
-  };
-})
+opened_lines {g} {s} conn None shut asked h = if_lines (nat_le 2 g.version) row (say_hello_lines 1 conn row)
+  where
+    row : Lines g none (OwnEvents.add_connection conn None s)
+    row = record {
+      parts = record {
+        numbers = numbers-more s.connections (new-row conn None) h.parts.numbers (new-number conn s.connections shut);
+        connections = dialled-more s.connections (new-row conn None) h.parts.connections (all-weaken (λ (d : Connection). (d.number == conn) ≡ false) _ s.connections (λ d f q is. refl) (new-number conn s.connections shut));
+        dialling = h.parts.dialling;
+        apart = all-weaken (λ peer. dialled_to s.connections peer ≡ None) _ s.dialling (λ peer e. to-more s.connections (new-row conn None) peer refl ∙ e) h.parts.apart;
+        waiting = all-weaken (λ q. none q ≡ false → WaitsForHello s.connections s.dialling q) _ s.requests (λ q w out waits. let x = w out waits in
+            (ap (λ o. is_some o || list_any (bytes_eq q.peer) s.dialling) (to-more s.connections (new-row conn None) q.peer refl) ∙ x.0, ap Requests.hello_came (to-more s.connections (new-row conn None) q.peer refl) ∙ x.1)) h.parts.waiting;
+      };
+    }
+opened_lines {g} {s} conn (Some p) shut asked h = say_hello_lines _ conn row
   where
     alone : dialled_to s.connections p ≡ None
     alone = dialled-none p s.connections s.dialling asked h.parts.apart
@@ -556,6 +640,18 @@ opened_lines {g} {s} conn (Some p) shut asked h = send_lines _ conn _ (record {
         kept : (b : Bool) → b || list_any (bytes_eq q.peer) s.dialling ≡ true → b || list_any (bytes_eq q.peer) (filter (λ x. not (bytes_eq p x)) s.dialling) ≡ true
         kept true f = refl
         kept false f = any-others p q.peer s.dialling is f
+
+    row : Lines g none (OwnEvents.dialled_no_more (Some p) (OwnEvents.add_connection conn (Some p) s))
+    row = record {
+      parts = record {
+        numbers = numbers-more s.connections (new-row conn (Some p)) h.parts.numbers (new-number conn s.connections shut);
+        connections = dialled-more s.connections (new-row conn (Some p)) h.parts.connections (all-others p s.connections alone);
+        dialling = once-filter (λ q. not (bytes_eq p q)) s.dialling h.parts.dialling;
+        apart = all-weaken (λ peer. (dialled_to s.connections peer ≡ None) × (not (bytes_eq p peer) ≡ true)) _ _ (λ peer e. to-more s.connections (new-row conn (Some p)) peer (not-is-true (bytes_eq p peer) e.1) ∙ e.0)
+            (all-both-filter (λ peer. dialled_to s.connections peer ≡ None) (λ q. not (bytes_eq p q)) s.dialling h.parts.apart);
+        waiting = all-weaken (λ q. none q ≡ false → WaitsForHello s.connections s.dialling q) _ s.requests (λ q w out waits. still q (w out waits) (bytes_eq p q.peer) refl) h.parts.waiting;
+      };
+    }
 
 refused_lines : {g : Setting} {s : State} (peer : Uuid) → Lines g none s → Lines g none (OwnEvents.on_refused g peer s)
 unfolding OwnEvents.on_refused

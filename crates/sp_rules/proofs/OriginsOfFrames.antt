@@ -45,7 +45,7 @@ use Rattle.sp_rules.specs.State as state
 use Rattle.sp_rules.specs.Tasks.{stand, steps}
 use Rattle.sp_rules.proofs.AllLemmas.{all-weaken, all-more, all-filter, all-map, all-found, found-is, none-found, all-both-filter, all-with, each-there, ranks-all}
 use Rattle.sp_rules.proofs.SweepLemmas.{one-id}
-use Rattle.sp_rules.proofs.OriginLemmas.{FrameIs, AskedIs, FieldsAre, Only, quiet, now_results, now_requests, now_fresh, now_notes, now_parked, if_only, some_only, each_only, note_only, send_only, hold_only, drop_only, flush_only, settle_only, ReplyIs, add_task_only, keep_only, reply_to_only, OpBrings, commit_only, CallIs, EndIs, park_only, give_back_only, finish_only}
+use Rattle.sp_rules.proofs.OriginLemmas.{FrameIs, AskedIs, FieldsAre, Only, quiet, now_results, now_requests, now_fresh, now_notes, now_parked, if_only, some_only, each_only, note_only, send_only, hold_only, drop_only, dial_only, flush_only, settle_only, ReplyIs, add_task_only, keep_only, reply_to_only, OpBrings, commit_only, CallIs, EndIs, park_only, give_back_only, finish_only}
 
 -- ---- parked frames
 
@@ -220,12 +220,19 @@ orphan-value conn moment k = by k.until k.value
         pick false = refl
     by (state.Passed m) value = refl
 
+let_connection_go_only : {g : Setting} {Is Out : Ref → Type 0} {Kept : ParkedFrame → Type 0} {s : State} (conn : ℕ) → Only g Is Out Kept s → Only g Is Out Kept (Endings.let_connection_go conn s)
+let_connection_go_only {g} {Is} {s = s} conn h =
+    each_only _ _ (λ t p k. let_go_only p t.parked (parked_weaken (λ q j. j.0) (take_only p k))) (quiet (Endings.without_connection conn s) refl
+    (now_results (map (Endings.orphan conn s.moment) s.results) (all-map (λ (k : KeptResult). AllOf Is (references_in k.value)) (λ (k : KeptResult). AllOf Is (references_in k.value)) (Endings.orphan conn s.moment) s.results
+    (λ k a. subst (λ v. AllOf Is (references_in v)) (sym (orphan-value conn s.moment k)) a) h.parts.results) h))
+
 end_connection_only : {g : Setting} {Is Out : Ref → Type 0} {Kept : ParkedFrame → Type 0} {s : State} (why : Asked → ClassId) (conn : ℕ) → Only g Is Out Kept s → Only g Is Out Kept (Endings.end_connection g why conn s)
 unfolding Endings.end_connection
-end_connection_only {g} {Is} {s = s} why conn h = some_only (connection_at s conn) _ h (λ c is. end_requests_only _ why
-    (each_only _ _ (λ t p k. let_go_only p t.parked (parked_weaken (λ q j. j.0) (take_only p k))) (quiet (Endings.without_connection conn s) refl
-    (now_results (map (Endings.orphan conn s.moment) s.results) (all-map (λ (k : KeptResult). AllOf Is (references_in k.value)) (λ (k : KeptResult). AllOf Is (references_in k.value)) (Endings.orphan conn s.moment) s.results
-    (λ k a. subst (λ v. AllOf Is (references_in v)) (sym (orphan-value conn s.moment k)) a) h.parts.results) h))))
+end_connection_only {s = s} why conn h = some_only (connection_at s conn) _ h (λ c is. end_requests_only _ why (let_connection_go_only conn h))
+
+redial_only : {g : Setting} {Is Out : Ref → Type 0} {Kept : ParkedFrame → Type 0} {s : State} (peer : Uuid) (conn : ℕ) → Only g Is Out Kept s → Only g Is Out Kept (Endings.redial peer conn s)
+unfolding Endings.redial
+redial_only {s = s} peer conn h = dial_only peer (note_only (Says (Close conn)) tt (let_connection_go_only conn (quiet (Endings.note_peer peer s) refl h)))
 
 close_only : {g : Setting} {Is Out : Ref → Type 0} {Kept : ParkedFrame → Type 0} {s : State} (class : ClassId) (conn : ℕ) → Only g Is Out Kept s → Only g Is Out Kept (Endings.close g class conn s)
 unfolding Endings.close
@@ -237,10 +244,15 @@ fail_write_only conn unsent h = end_connection_only _ conn h
 
 -- ---- frames that come
 
+say_hello_only : {g : Setting} {Is Out : Ref → Type 0} {Kept : ParkedFrame → Type 0} {s : State} (version conn : ℕ) → Only g Is Out Kept s → Only g Is Out Kept (Frames.say_hello g version conn s)
+say_hello_only {g} version conn h = quiet _ refl (send_only Rattle.sp_rules.specs.Events.Hellos conn (message.Hello version g.id g.digest) tt h)
+
 first_only : {g : Setting} {Is Out : Ref → Type 0} {Kept : ParkedFrame → Type 0} {s : State} (c : Connection) (m : Message) → Only g Is Out Kept s → Only g Is Out Kept (Frames.first_frame g c m s)
 unfolding Frames.first_frame
-first_only {g} {s = s} c (message.Hello version space digest) h = some_only c.dialled _ (if_only (bytes_eq digest g.digest) (quiet _ refl h) (close_only _ c.number h))
-    (λ peer is. if_only (bytes_eq digest g.digest && bytes_eq space peer) (flush_only peer c.number (quiet _ refl h)) (close_only _ c.number h))
+first_only {g} {s = s} c (message.Hello version space digest) h = some_only c.dialled _ (if_only _ (if_only (nat_le 2 g.version) (say_hello_only _ c.number (quiet _ refl h)) (quiet _ refl h)) (close_only _ c.number h))
+    (λ peer is. if_only (bytes_eq digest g.digest && bytes_eq space peer)
+    (if_only (version == c.version) (flush_only peer c.number (quiet _ refl h)) (if_only (nat_le 2 c.version && version == 1) (redial_only peer c.number h) (close_only _ c.number h)))
+    (close_only _ c.number h))
 first_only c (message.Call number object method fuel arguments) h = close_only _ c.number h
 first_only c (message.Returned number fuel value) h = close_only _ c.number h
 first_only c (message.Threw number class) h = close_only _ c.number h
@@ -383,9 +395,9 @@ got_only c (message.Returned number fuel value) b h = answered_by_only c number 
 got_only {g} c (message.Threw number class) b h = answered_by_only c number _ (λ asked. ends_as_only c number (λ a. Frames.thrown_reply g class) asked tt h) h
 got_only {g} {Is} c (message.Spent number) b h = answered_by_only c number _ (λ asked. ends_as_only c number (Frames.spent_reply g) asked (spent-is g Is asked) h) h
 got_only c (message.Ack number) b h = got_ack_only c number h
-got_only c (message.Dirty sequence period objects) b h = send_only _ c.number _ tt (quiet _ refl h)
+got_only c (message.Dirty sequence period objects) b h = if_only (Frames.fit_frame c objects) (send_only _ c.number _ tt (quiet _ refl h)) (close_only _ c.number h)
 got_only c (message.Lease sequence period) b h = told_by_only c true sequence _ h
-got_only c (message.Clean sequence strong objects) b h = send_only _ c.number _ tt (quiet _ refl h)
+got_only c (message.Clean sequence strong objects) b h = if_only (Frames.fit_frame c objects) (send_only _ c.number _ tt (quiet _ refl h)) (close_only _ c.number h)
 got_only c (message.Cleaned sequence) b h = told_by_only c false sequence _ h
 got_only c (message.Lookup number name) b h = got_lookup_only c number name h
 
@@ -447,8 +459,8 @@ lookup_only {s = s} peer name h = if_only (is_name name)
 
 opened_only : {g : Setting} {Is Out : Ref → Type 0} {Kept : ParkedFrame → Type 0} {s : State} (conn : ℕ) (dialled : Option Uuid) → Only g Is Out Kept s → Only g Is Out Kept (OwnEvents.on_opened g conn dialled s)
 unfolding OwnEvents.on_opened
-opened_only conn None h = send_only _ conn _ tt (quiet _ refl h)
-opened_only conn (Some peer) h = send_only _ conn _ tt (quiet _ refl h)
+opened_only {g} conn None h = if_only (nat_le 2 g.version) (quiet _ refl h) (say_hello_only 1 conn (quiet _ refl h))
+opened_only conn (Some peer) h = say_hello_only _ conn (quiet _ refl h)
 
 refused_only : {g : Setting} {Is Out : Ref → Type 0} {Kept : ParkedFrame → Type 0} {s : State} (peer : Uuid) → Only g Is Out Kept s → Only g Is Out Kept (OwnEvents.on_refused g peer s)
 unfolding OwnEvents.on_refused

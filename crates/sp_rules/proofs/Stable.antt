@@ -309,10 +309,12 @@ end_requests_keeps S {s = s} is why e =
     each_keeps S.framed _ _ (λ t q h. end_asked_keeps S (why q.asked) q.asked h)
     (each_keeps S.framed _ _ (λ t q h. end_asked_keeps S (why q.asked) q.asked h) (S.framed.frame s _ refl e))
 
+let_connection_go_keeps : {P : State → Type 0} (F : IsFramed P) {s : State} (conn : ℕ) → P s → P (Endings.let_connection_go conn s)
+let_connection_go_keeps F {s = s} conn e = each_keeps F _ _ (λ t p h. let_go_keeps F p t.parked (F.frame t _ refl h)) (F.frame s _ refl e)
+
 end_connection_keeps : {g : Setting} {P : State → Type 0} (S : IsStable g P) {s : State} (why : Asked → ClassId) (conn : ℕ) → P s → P (Endings.end_connection g why conn s)
 unfolding Endings.end_connection
-end_connection_keeps S {s = s} why conn e = some_keeps S.framed (connection_at s conn) _ e (λ c is. end_requests_keeps S _ why
-    (each_keeps S.framed _ _ (λ t p h. let_go_keeps S.framed p t.parked (S.framed.frame t _ refl h)) (S.framed.frame s _ refl e)))
+end_connection_keeps S {s = s} why conn e = some_keeps S.framed (connection_at s conn) _ e (λ c is. end_requests_keeps S _ why (let_connection_go_keeps S.framed conn e))
 
 pub close_keeps : {g : Setting} {P : State → Type 0} (S : IsStable g P) {s : State} (class : ClassId) (conn : ℕ) → P s → P (Endings.close g class conn s)
 unfolding Endings.close
@@ -322,15 +324,29 @@ fail_write_keeps : {g : Setting} {P : State → Type 0} (S : IsStable g P) {s : 
 unfolding Endings.fail_write
 fail_write_keeps S conn unsent e = end_connection_keeps S _ conn e
 
+redial_keeps : {P : State → Type 0} (F : IsFramed P) {s : State} (peer : Uuid) (conn : ℕ) → P s → P (Endings.redial peer conn s)
+unfolding Endings.redial
+redial_keeps F {s = s} peer conn e = dial_keeps F peer (F.frame _ _ refl (let_connection_go_keeps F conn (F.frame s _ refl e)))
+
 -- ---- frames
+
+say_hello_keeps : {P : State → Type 0} (F : IsFramed P) {s : State} (g : Setting) (version conn : ℕ) → P s → P (Frames.say_hello g version conn s)
+say_hello_keeps F g version conn e = F.frame _ _ refl (send_keeps F Rattle.sp_rules.specs.Events.Hellos conn (message.Hello version g.id g.digest) e)
 
 pub first_frame_keeps : {g : Setting} {P : State → Type 0} (S : IsStable g P) {s : State} (c : Connection) (m : Message) → P s → P (Frames.first_frame g c m s)
 unfolding Frames.first_frame
-first_frame_keeps {g} {P} S {s = s} c (message.Hello version space digest) e = some_keeps S.framed c.dialled _ (if_keeps S.framed _ known (close_keeps S _ c.number e))
-    (λ peer is. if_keeps S.framed _ (flush_keeps S.framed peer c.number known) (close_keeps S _ c.number e))
+first_frame_keeps {g} {P} S {s = s} c (message.Hello version space digest) e = some_keeps S.framed c.dialled _ (if_keeps S.framed _ answers (close_keeps S _ c.number e))
+    (λ peer is. if_keeps S.framed _ (answered peer) (close_keeps S _ c.number e))
   where
     known : P (Frames.greeted space c.number s)
     known = S.framed.frame s _ refl e
+
+    answers : P (Frames.answer_hello g version c.number (Frames.greeted space c.number s))
+    answers = if_keeps S.framed (nat_le 2 g.version) (say_hello_keeps S.framed g _ c.number known) known
+
+    answered : (peer : Uuid) → P (Frames.answered_hello g c peer version space s)
+    answered peer = if_keeps S.framed (version == c.version) (flush_keeps S.framed peer c.number known)
+        (if_keeps S.framed (nat_le 2 c.version && version == 1) (redial_keeps S.framed peer c.number e) (close_keeps S _ c.number e))
 first_frame_keeps S c _ e = close_keeps S _ c.number e
 
 pub release_keeps : {g : Setting} {P : State → Type 0} (S : IsStable g P) {s : State} (is : State.KeptResult → Bool) → P s → P (Frames.release g is s)
@@ -400,9 +416,9 @@ got_keeps S c (message.Returned number fuel value) T e = answered_by_keeps S c n
 got_keeps {g} S c (message.Threw number class) T e = answered_by_keeps S c number _ (λ asked. ends_as_keeps S c number (λ a. Frames.thrown_reply g class) asked e) e
 got_keeps {g} S c (message.Spent number) T e = answered_by_keeps S c number _ (λ asked. ends_as_keeps S c number (Frames.spent_reply g) asked e) e
 got_keeps S c (message.Ack number) T e = got_ack_keeps S c number e
-got_keeps S {s = s} c (message.Dirty sequence period objects) T e = send_keeps S.framed _ c.number _ ((T refl).told s _ e)
+got_keeps S {s = s} c (message.Dirty sequence period objects) T e = if_keeps S.framed (Frames.fit_frame c objects) (send_keeps S.framed _ c.number _ ((T refl).told s _ e)) (close_keeps S _ c.number e)
 got_keeps S c (message.Lease sequence period) T e = told_by_keeps S c true sequence _ e
-got_keeps S {s = s} c (message.Clean sequence strong objects) T e = send_keeps S.framed _ c.number _ ((T refl).told s _ e)
+got_keeps S {s = s} c (message.Clean sequence strong objects) T e = if_keeps S.framed (Frames.fit_frame c objects) (send_keeps S.framed _ c.number _ ((T refl).told s _ e)) (close_keeps S _ c.number e)
 got_keeps S c (message.Cleaned sequence) T e = told_by_keeps S c false sequence _ e
 got_keeps S c (message.Lookup number name) T e = got_lookup_keeps S c number name e
 
@@ -443,8 +459,8 @@ lookup_keeps S {s = s} peer name e = if_keeps S.framed (Rattle.sp_registry.specs
 
 opened_keeps : {g : Setting} {P : State → Type 0} (S : IsStable g P) {s : State} (conn : ℕ) (dialled : Option Uuid) → P s → P (OwnEvents.on_opened g conn dialled s)
 unfolding OwnEvents.on_opened
-opened_keeps S {s = s} conn None e = send_keeps S.framed _ conn _ (S.framed.frame s _ refl e)
-opened_keeps S {s = s} conn (Some peer) e = send_keeps S.framed _ conn _ (S.framed.frame s _ refl e)
+opened_keeps {g} S {s = s} conn None e = if_keeps S.framed (nat_le 2 g.version) (S.framed.frame s _ refl e) (say_hello_keeps S.framed g 1 conn (S.framed.frame s _ refl e))
+opened_keeps {g} S {s = s} conn (Some peer) e = say_hello_keeps S.framed g _ conn (S.framed.frame s _ refl e)
 
 refused_keeps : {g : Setting} {P : State → Type 0} (S : IsStable g P) {s : State} (peer : Uuid) → P s → P (OwnEvents.on_refused g peer s)
 unfolding OwnEvents.on_refused

@@ -24,7 +24,7 @@ use Rattle.sp_rules.specs.Events.{Event, Moment, Sweep, Root, RootAck, Bind, Reb
 use Rattle.sp_rules.specs.Frames.{that_stand}
 use Rattle.sp_rules.specs.Holders
 use Rattle.sp_rules.specs.Holders.{has_reason}
-use Rattle.sp_rules.specs.Laws.{AllOf, IsOne, is_sweep, stands, unless_denied, named_by, told_in, told_from, told_on, told_by, NamesStand, EntriesStand}
+use Rattle.sp_rules.specs.Laws.{AllOf, IsOne, is_sweep, stands, unless_denied, named_by, told_in, told_from, told_on, is_short, told_by, NamesStand, EntriesStand}
 use Rattle.sp_rules.specs.OwnEvents.{without_reason}
 use Rattle.sp_rules.specs.References.{is_id, is_id_in}
 use Rattle.sp_rules.specs.Space
@@ -300,7 +300,11 @@ from-leaves s (Some client) (Some peer) c m calls o out r = r
 on-leaves : (s : State) (row : Option Connection) (c : List ℕ) (m : Message) (calls : List owner.Call) (o : ObjId) → stands s o ≡ false
     → owner.remembered_of calls c o ≡ blank → owner.remembered_of (told_on s row m calls) c o ≡ blank
 on-leaves s None c m calls o out r = r
-on-leaves s (Some row) c m calls o out r = from-leaves s row.peer row.dialled c m calls o out r
+on-leaves s (Some row) c m calls o out r = pick (is_short row m)
+  where
+    pick : (b : Bool) → owner.remembered_of (if b then told_from row.peer row.dialled s m calls else calls) c o ≡ blank
+    pick true = from-leaves s row.peer row.dialled c m calls o out r
+    pick false = r
 
 moment-leaves : (late : Bool) (moment : ℕ) (c : List ℕ) (calls : List owner.Call) (o : ObjId)
     → owner.remembered_of calls c o ≡ blank → owner.remembered_of (if late then calls else owner.Moment moment ∷ calls) c o ≡ blank

@@ -57,12 +57,13 @@ pub record Classes : Type 0 where
   pub server_exception : ClassId
   pub not_bound : ClassId
 
--- What is settled as a space is made: its classes and their digest, its id, and the limits of its tasks.
+-- What is settled as a space is made: its classes and their digest, its id, the limits of its tasks, and the highest version of the frames that it speaks, 1 or 2.
 pub record Setting : Type 0 where
   pub classes : Classes
   pub id : Uuid
   pub digest : List ℕ
   pub limits : Limits
+  pub version : ℕ
 
 -- ---- kinds
 

@@ -1,5 +1,5 @@
 -- Failures and ends of connections: dirty and clean calls fail, calls end with an exception, results are held on (Java RMI specification, appendix A: ConnectException, MarshalException, UnmarshalException). A failure removes no entry and no name.
-use Rattle.std.specs.Prelude.{ℕ, ◌+◌, ◌==◌, ◌&&◌, ◌||◌, not, Bool, true, false, List, [], ◌∷◌, Option, None, Some, is_none, filter, map, take, if◌then◌else◌}
+use Rattle.std.specs.Prelude.{ℕ, ◌+◌, ◌==◌, ◌&&◌, ◌||◌, not, Bool, true, false, List, [], ◌∷◌, ◌++◌, Option, None, Some, is_none, filter, map, take, if◌then◌else◌}
 use Rattle.std.specs.List.{list_any, flat_map}
 use Rattle.space_ids.specs.declared.ids.ClassId.{ClassId}
 use Rattle.dgc_client.specs.Lease as lease
@@ -19,7 +19,7 @@ use Rattle.sp_rules.specs.Holders.{lease_now}
 use Rattle.sp_rules.specs.Lists.{each, with_some}
 use Rattle.sp_rules.specs.LivingTasks.{reply_to}
 use Rattle.sp_rules.specs.ParkedFrames.{is_out_on, remove_requests, take_parked, let_go_parked, fail_parked, names}
-use Rattle.sp_rules.specs.Requests.{waits_for}
+use Rattle.sp_rules.specs.Requests.{waits_for, dial}
 use Rattle.sp_rules.specs.State.{State, Request, Asked, Calls, LooksUp, Tells, Until, RootAcked, Acked, Passed, KeptResult, Connection, ParkedFrame, connection_at, say}
 
 -- ---- dirty and clean calls fail
@@ -87,10 +87,13 @@ without_connection conn s = record s {
   results = map (orphan conn s.moment) s.results;
 }
 
+-- A connection goes, and what came on it: its parked calls are dropped, its results held on.
+abbrev pub let_connection_go : ℕ → State → State
+let_connection_go conn s = each unpark (filter (λ (p : ParkedFrame). p.conn == conn) s.parked) (without_connection conn s)
+
 unfoldable pub end_connection : Setting → (Asked → ClassId) → ℕ → State → State
 end_connection g why conn s = with_some (connection_at s conn) s (λ c.
-    end_requests g (is_of_connection conn c.dialled) why
-    (each unpark (filter (λ (p : ParkedFrame). p.conn == conn) s.parked) (without_connection conn s)))
+    end_requests g (is_of_connection conn c.dialled) why (let_connection_go conn s))
 
 -- Closed, ReadFailed, Bad and any closing but for a wrong first Hello end all calls of the connection with UnmarshalException.
 abbrev pub by_unmarshal : Setting → Asked → ClassId
@@ -98,6 +101,15 @@ by_unmarshal g asked = g.classes.unmarshal
 
 unfoldable pub close : Setting → ClassId → ℕ → State → State
 close g class conn s = say (Close conn) (end_connection g (λ asked. class) conn s)
+
+-- ---- a peer of version 1
+
+abbrev pub note_peer : Uuid → State → State
+note_peer peer s = record s { noted = s.noted ++ peer ∷ [] }
+
+-- A peer that was found to speak version 1 alone is noted, for good, and dialled again once its connection is closed. What waits for it waits on: no request ends or fails.
+unfoldable pub redial : Uuid → ℕ → State → State
+redial peer conn s = dial peer (say (Close conn) (let_connection_go conn (note_peer peer s)))
 
 -- ---- a write fails
 

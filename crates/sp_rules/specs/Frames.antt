@@ -17,30 +17,44 @@ use Rattle.space_ids.specs.declared.value.Value.{Value}
 use Rattle.space_ids.specs.declared.value.Value.TheVariants as values
 use Rattle.sp_rules.specs.Behaviours.{Reply, Throws, RunsOut}
 use Rattle.sp_rules.specs.Classes.{Setting, fit_kinds, fits_result}
-use Rattle.sp_rules.specs.Endings.{close}
+use Rattle.sp_rules.specs.Endings.{close, redial}
 use Rattle.sp_rules.specs.Events.{Hellos, Replies, Acks}
 use Rattle.sp_rules.specs.Holders.{drop, is_refused}
 use Rattle.sp_rules.specs.Lists.{each, with_some}
 use Rattle.sp_rules.specs.LivingTasks.{keep, reply_to}
 use Rattle.sp_rules.specs.ParkedFrames.{is_asked_on, is_call_on, is_unanswered_on, remove_requests, answer_threw, park_frame, go_all}
 use Rattle.sp_rules.specs.References.{references_in, references_of, foreign_ids, is_id_in}
-use Rattle.sp_rules.specs.Requests.{flush_waiting}
+use Rattle.sp_rules.specs.Requests.{flush_waiting, most_ids}
 use Rattle.sp_rules.specs.State.{State, Request, Asked, Calls, LooksUp, Tells, Stage, Waits, Out, Answered, Until, RootAcked, Acked, Passed, KeptResult, Connection, Frame, CallFrame, ReturnedFrame, ParkedFrame, Object, standing, object_at, set_connection, tell_owner, send}
 
 -- ---- Hello
 
--- Both ends send Hello first.
-abbrev pub say_hello : Setting → ℕ → State → State
-say_hello g conn s = send Hellos conn (message.Hello 1 g.id g.digest) s
+abbrev pub of_version : ℕ → ℕ → State → State
+of_version version conn s = set_connection (λ (d : Connection). record d { version = version }) conn s
+
+-- Both ends send Hello first. Its version is that of the connection's frames from then on.
+abbrev pub say_hello : Setting → ℕ → ℕ → State → State
+say_hello g version conn s = of_version version conn (send Hellos conn (message.Hello version g.id g.digest) s)
 
 abbrev pub greeted : Uuid → ℕ → State → State
 greeted space conn s = set_connection (λ (d : Connection). record d { peer = Some space }) conn s
 
--- A first frame that is no Hello closes the connection, and so does a Hello with another digest, or another id than was dialled. A wrong first Hello ends the calls and lookups that wait to be sent with ConnectException.
+-- A space of version 1 says Hello as the connection opens, at the end that was dialled too. One of version 2 that was dialled answers the other's, with the lower of the two versions.
+abbrev pub answer_hello : Setting → ℕ → ℕ → State → State
+answer_hello g version conn s = if nat_le 2 g.version then say_hello g (min version g.version) conn s else s
+
+-- The peer that was dialled answers with the version that this space said. If it answers 2 with 1 it speaks version 1 alone, and is dialled again; any other version closes the connection.
+abbrev pub answered_hello : Setting → Connection → Uuid → ℕ → Uuid → State → State
+answered_hello g c peer version space s =
+    if version == c.version then flush_waiting peer c.number (greeted space c.number s)
+    else (if nat_le 2 c.version && version == 1 then redial peer c.number s else close g g.classes.unmarshal c.number s)
+
+-- A first frame that is no Hello closes the connection, and so does a Hello with another digest, with another id than was dialled, or of a version that the space does not speak. A Hello with another digest or id ends the calls and lookups that wait to be sent with ConnectException.
 unfoldable pub first_frame : Setting → Connection → Message → State → State
 first_frame g c (message.Hello version space digest) s = with_some c.dialled
-    (if bytes_eq digest g.digest then greeted space c.number s else close g g.classes.unmarshal c.number s)
-    (λ peer. if bytes_eq digest g.digest && bytes_eq space peer then flush_waiting peer c.number (greeted space c.number s)
+    (if bytes_eq digest g.digest && nat_le version g.version then answer_hello g version c.number (greeted space c.number s)
+    else close g g.classes.unmarshal c.number s)
+    (λ peer. if bytes_eq digest g.digest && bytes_eq space peer then answered_hello g c peer version space s
     else close g g.classes.connect c.number s)
 first_frame g c m s = close g g.classes.unmarshal c.number s
 
@@ -131,16 +145,27 @@ client_of (Some peer) own = peer
 abbrev pub that_stand : State → List ObjId → List ObjId
 that_stand s ids = filter (is_id_in (map (λ (o : Object). o.id) (standing s.store))) ids
 
+-- whether a frame of the connection's version may name these
+abbrev pub fit_frame : Connection → List ObjId → Bool
+fit_frame c ids = nat_le (length ids) (most_ids c.version)
+
 -- A lease is granted for the smaller of the period asked and 600,000 ms. A late dirty call changes nothing and is answered as usual.
-unfoldable pub got_dirty : Setting → Connection → ℕ → ℕ → List ObjId → State → State
-got_dirty g c sequence period ids s =
+abbrev pub answer_dirty : Setting → Connection → ℕ → ℕ → List ObjId → State → State
+answer_dirty g c sequence period ids s =
     send Replies c.number (message.Lease sequence (min period 600000))
     (tell_owner (owner.Dirty (client_of c.peer g.id) (that_stand s ids) sequence period) s)
 
-unfoldable pub got_clean : Setting → Connection → ℕ → Bool → List ObjId → State → State
-got_clean g c sequence strong ids s =
+abbrev pub answer_clean : Setting → Connection → ℕ → Bool → List ObjId → State → State
+answer_clean g c sequence strong ids s =
     send Replies c.number (message.Cleaned sequence)
     (tell_owner (owner.Clean (client_of c.peer g.id) (that_stand s ids) sequence strong) s)
+
+-- More ids than a frame of the connection's version names close it.
+unfoldable pub got_dirty : Setting → Connection → ℕ → ℕ → List ObjId → State → State
+got_dirty g c sequence period ids s = if fit_frame c ids then answer_dirty g c sequence period ids s else close g g.classes.unmarshal c.number s
+
+unfoldable pub got_clean : Setting → Connection → ℕ → Bool → List ObjId → State → State
+got_clean g c sequence strong ids s = if fit_frame c ids then answer_clean g c sequence strong ids s else close g g.classes.unmarshal c.number s
 
 -- ---- at the end that dialled: Returned, Threw, Spent
 

@@ -14,7 +14,7 @@ use Rattle.sp_rules.specs.Books.{Entry, event_of, book_run}
 use Rattle.sp_rules.specs.Classes.{Setting}
 use Rattle.sp_rules.specs.Events.{Output, Started, Ended, Withdrawn, Denied, Send, Dial, Close, Ready, Event, Moment, Sweep, Bind, Rebind, Unbind, Received, Committed}
 use Rattle.sp_rules.specs.Fuel.{world_units, world_roots}
-use Rattle.sp_rules.specs.Frames.{that_stand}
+use Rattle.sp_rules.specs.Frames.{that_stand, fit_frame}
 use Rattle.sp_rules.specs.Holders.{has_reason, own_object}
 use Rattle.sp_rules.specs.OwnEvents.{without_reason}
 use Rattle.sp_rules.specs.References.{is_id_in}
@@ -116,10 +116,16 @@ told_from None dialled s m calls = calls
 told_from (Some client) None s m calls = told_in client s m calls
 told_from (Some client) (Some peer) s m calls = calls
 
+-- whether a frame names no more ids than one of the connection's version may
+abbrev pub is_short : Connection → Message → Bool
+is_short c (message.Dirty sequence period ids) = fit_frame c ids
+is_short c (message.Clean sequence strong ids) = fit_frame c ids
+is_short c m = true
+
 -- A client tells by dirty and clean frames alone, on a connection that it dialled, after its Hello; its calls speak of standing objects.
 abbrev pub told_on : State → Option Connection → Message → List owner.Call → List owner.Call
 told_on s None m calls = calls
-told_on s (Some c) m calls = told_from c.peer c.dialled s m calls
+told_on s (Some c) m calls = if is_short c m then told_from c.peer c.dialled s m calls else calls
 
 -- what an event tells the reference lists: a client's dirty or clean call, a moment that is not below the last, the objects that a Sweep withdraws
 abbrev pub told_by : Setting → State → Event → List owner.Call → List owner.Call

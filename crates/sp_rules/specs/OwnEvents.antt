@@ -1,5 +1,6 @@
 -- The events that a space's own program gives it: moments, sweeps, names, lookups, acknowledgements; and connections as they open (Java RMI specification, 3.3 on what may be collected, 6.1 on the registry).
 use Rattle.std.specs.Prelude.{ℕ, ◌+◌, ◌==◌, not, nat_lt, nat_le, Bool, false, List, [], ◌∷◌, ◌++◌, Option, None, Some, Result, Ok, Err, filter, map, if◌then◌else◌}
+use Rattle.std.specs.List.{list_any}
 use Rattle.std.specs.Str.{bytes_eq}
 use Rattle.dgc_client.specs.Table as client
 use Rattle.dgc_list.specs.History as owner
@@ -91,14 +92,30 @@ on_lookup g peer name s =
 
 abbrev pub add_connection : ℕ → Option Uuid → State → State
 add_connection conn dialled s =
-    record s { connections = s.connections ++ record { number = conn; dialled = dialled; peer = None; last = 0; sent = [] } ∷ [] }
+    record s { connections = s.connections ++ record { number = conn; dialled = dialled; peer = None; version = 1; last = 0; sent = [] } ∷ [] }
 
 abbrev pub dialled_no_more : Option Uuid → State → State
 dialled_no_more None s = s
 dialled_no_more (Some peer) s = record s { dialling = filter (λ p. not (bytes_eq peer p)) s.dialling }
 
+abbrev pub is_among : List Uuid → Uuid → Bool
+is_among peers peer = list_any (bytes_eq peer) peers
+
+-- whether a peer was found to speak version 1 alone
+abbrev pub is_noted : State → Uuid → Bool
+is_noted s peer = is_among s.noted peer
+
+-- the version with which a peer is greeted that this space dialled
+abbrev pub version_to : Setting → State → Uuid → ℕ
+version_to g s peer = if is_noted s peer then 1 else g.version
+
+-- The space that dialled says Hello at once, with its own highest version, or with 1 to a peer that was noted. The space that was dialled says it at once if it is of version 1.
+abbrev pub first_hello : Setting → ℕ → Option Uuid → State → State
+first_hello g conn None s = if nat_le 2 g.version then s else say_hello g 1 conn s
+first_hello g conn (Some peer) s = say_hello g (version_to g s peer) conn s
+
 unfoldable pub on_opened : Setting → ℕ → Option Uuid → State → State
-on_opened g conn dialled s = say_hello g conn (dialled_no_more dialled (add_connection conn dialled s))
+on_opened g conn dialled s = first_hello g conn dialled (dialled_no_more dialled (add_connection conn dialled s))
 
 -- Refused ends the calls and lookups that wait to be sent to the peer with ConnectException, and fails each dirty and clean call that waits.
 unfoldable pub on_refused : Setting → Uuid → State → State

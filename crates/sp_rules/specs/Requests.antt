@@ -1,6 +1,6 @@
 -- What is asked of peers: how requests are made, wait for the peer's Hello, and go out; and the end of an event, at which the due dirty and
 -- clean calls are made (Java RMI specification, 9.1: DGC.dirty and DGC.clean).
-use Rattle.std.specs.Prelude.{ℕ, ◌+◌, ◌&&◌, ◌||◌, not, Bool, true, false, List, [], ◌∷◌, ◌++◌, Option, None, Some, is_some, filter, if◌then◌else◌}
+use Rattle.std.specs.Prelude.{ℕ, ◌+◌, ◌&&◌, ◌||◌, not, Bool, true, false, List, [], ◌∷◌, ◌++◌, Option, None, Some, is_some, nat_le, filter, if◌then◌else◌}
 use Rattle.std.specs.Str.{bytes_eq}
 use Rattle.dgc_client.specs.declared.groups.Group.{Group}
 use Rattle.dgc_client.specs.declared.lease.Due.{Due}
@@ -14,7 +14,7 @@ use Rattle.space_ids.specs.declared.ids.ObjId.{ObjId}
 use Rattle.sp_rules.specs.Events.{Turn, Waited, Cleans, Dirties, Dial}
 use Rattle.sp_rules.specs.Events as event
 use Rattle.sp_rules.specs.Lists.{each, with_some}
-use Rattle.sp_rules.specs.State.{State, Request, Asked, Calls, LooksUp, Tells, Stage, Waits, Out, Answered, Connection, connection_to, is_dialling, send, say}
+use Rattle.sp_rules.specs.State.{State, Request, Asked, Calls, LooksUp, Tells, Stage, Waits, Out, Answered, Connection, connection_at, connection_to, is_dialling, send, say}
 
 -- ---- groups of dirty and clean calls
 
@@ -50,13 +50,25 @@ part_goes_out turn conn call s part =
     (add_request (record { peer = part.peer; asked = Tells call part; stage = Out conn sequence })
     (record s { leases = client.sent part call s.leases }))
 
--- Calls go out with the numbers that they have. Dirty and Clean are cut as they go out: more than 1,024 ids go in several frames.
+-- A frame of version 1 names at most 1,024 ids, one of version 2 at most 4,096.
+abbrev pub most_ids : ℕ → ℕ
+most_ids version = if nat_le 2 version then 4096 else 1024
+
+abbrev pub most_of : Option Connection → ℕ
+most_of None = 1024
+most_of (Some c) = most_ids c.version
+
+-- how many ids a frame on a connection names at most
+abbrev pub most_on : State → ℕ → ℕ
+most_on s conn = most_of (connection_at s conn)
+
+-- Calls go out with the numbers that they have. Dirty and Clean are cut as they go out: more ids than a frame of the connection's version names go in several frames.
 abbrev pub goes_out : Turn → ℕ → Uuid → Asked → State → State
 goes_out turn conn peer (Calls number task lent kind m) s =
     send turn conn m (add_request (record { peer = peer; asked = Calls number task lent kind m; stage = Out conn 0 }) s)
 goes_out turn conn peer (LooksUp number task name) s =
     send turn conn (message.Lookup number name) (add_request (record { peer = peer; asked = LooksUp number task name; stage = Out conn 0 }) s)
-goes_out turn conn peer (Tells call group) s = each (part_goes_out turn conn call) (groups.parts_of 1024 group) s
+goes_out turn conn peer (Tells call group) s = each (part_goes_out turn conn call) (groups.parts_of (most_on s conn) group) s
 
 unfoldable pub go_out : Turn → ℕ → Request → State → State
 go_out turn conn r s = goes_out turn conn r.peer r.asked s

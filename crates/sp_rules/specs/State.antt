@@ -116,6 +116,8 @@ pub record Connection : Type 0 where
   pub dialled : Option Uuid
   -- who spoke, once the Hello has come
   pub peer : Option Uuid
+  -- the version of its frames: that of the Hello that this space said, 1 before it said one
+  pub version : ℕ
   -- the last Call or Lookup number that came
   pub last : ℕ
   -- what was sent, newest first
@@ -158,6 +160,8 @@ pub record State : Type 0 where
   pub connections : List Connection
   -- the peers that were dialled and neither opened nor refused
   pub dialling : List Uuid
+  -- the peers that were found to speak version 1 alone
+  pub noted : List Uuid
   pub parked : List ParkedFrame
   -- the instructions of the tasks that ended
   pub retired : ℕ
@@ -181,6 +185,7 @@ opening = record {
   results = [];
   connections = [];
   dialling = [];
+  noted = [];
   parked = [];
   retired = 0;
   fresh = [];
