@@ -3,7 +3,7 @@ use mathlib.Core.Path.{sym, ap, subst, ◌∙◌}
 use Rattle.std.proofs.Common.{inl, inr}
 use Rattle.std.proofs.lemmas.Bool.{true≢false}
 use Rattle.std.proofs.lemmas.Slice.Eq.{bytes_eq-Decides}
-use Rattle.std.specs.Prelude.{◌≡◌, refl, ℕ, ◌&&◌, not, is_some, is_none, Bool, true, false, List, [], ◌∷◌, ◌++◌, Option, None, Some, option_map, slice_get, if◌then◌else◌}
+use Rattle.std.specs.Prelude.{◌≡◌, ◌⊎◌, refl, ℕ, ◌&&◌, not, is_some, is_none, Bool, true, false, List, [], ◌∷◌, ◌++◌, Option, None, Some, option_map, slice_get, if◌then◌else◌}
 use Rattle.std.specs.Str.{bytes_eq}
 use Rattle.net_message.specs.declared.message.Message.{Message}
 use Rattle.net_message.specs.declared.message.Message.TheVariants as message
@@ -11,7 +11,7 @@ use Rattle.space_ids.specs.declared.ids.ObjId.{ObjId}
 use Rattle.uuid.specs.declared.Uuid.{Uuid}
 use Rattle.sp_rules.specs.Classes.{Setting}
 use Rattle.sp_rules.specs.Events.{Opened}
-use Rattle.sp_rules.specs.Frames.{is_asking, is_wrong_way}
+use Rattle.sp_rules.specs.Frames.{is_asking, is_wrong_way, fit_frame}
 use Rattle.sp_rules.specs.State.{Connection, connection_at, is_open}
 use Rattle.sp_rules.specs.Worlds.{World, Space, Pipe, End, Dialler, Accepter, side, id_in}
 use Rattle.sp_rules.proofs.AllLemmas.{some-none}
@@ -23,11 +23,11 @@ use Rattle.sp_order_laws.specs.Delivered.{came_on, sent_on}
 use Rattle.sp_order_laws.specs.Ends.{IsOneOf}
 use Rattle.sp_order_laws.specs.Places.{IsBetween}
 use Rattle.sp_order_laws.proofs.WorldFacts.{at-all}
-use Rattle.sp_order_laws.specs.Unbroken.{ends_at, IsJoined}
+use Rattle.sp_order_laws.specs.Unbroken.{ends_at, IsJoined, IsProbe}
 use Rattle.sp_order_laws.specs.Welcome.{is_welcome_first, is_welcome_later}
 use Rattle.sp_order_laws.proofs.TimeLemmas.{Given}
-use Rattle.sp_order_laws.proofs.WelcomeFrames.{setting-at, dialler-row, is-welcome}
-use Rattle.sp_order_laws.proofs.WelcomeLemmas.{Facts, ends-of, of-there, one-left}
+use Rattle.sp_order_laws.proofs.WelcomeFrames.{setting-at, dialler-row, no-probe, is-welcome}
+use Rattle.sp_order_laws.proofs.WelcomeLemmas.{Facts, ends-of, of-there, one-left, one-right}
 use Rattle.sp_held_laws.specs.Reaches.{IsFirstTo}
 
 -- ---- ids
@@ -108,8 +108,8 @@ own-hello s conn version client digest k o = by (opened conn s.history) refl
 
     first : (ms : List Message) → BeginsWithHello s.setting ms → IsOneOf (message.Hello version client digest) ms
         → client ≡ s.setting.id
-    first [] a i = absurd a
-    first (m ∷ ms) a (inl e) = ap id-of (e ∙ a.0)
+    first [] a i = absurd i
+    first (m ∷ ms) a (inl e) = ap id-of (e ∙ a.0.says)
     first (m ∷ ms) a (inr i) = absurd (none ms a.1 i)
 
     by : (b : Bool) → opened conn s.history ≡ b → client ≡ s.setting.id
@@ -204,37 +204,54 @@ first-along {settings} {w} F i j conn a b m B first = by first.end first.space f
     by Dialler e f = absurd (apart (sym (ap (λ (q : Pipe). q.dialler.space) same) ∙ (e ∙ sym B.accepts)))
     by Accepter e f = sym (ap (λ (q : Pipe). q.accepter.queue) same) ∙ f
 
--- the row of a connection on which a dirty call comes
-pub record ClientRow (a b : Space) (conn : ℕ) : Type 0 where
+-- the row of a connection on which a dirty call of these ids comes
+pub record ClientRow (a b : Space) (conn : ℕ) (ids : List ObjId) : Type 0 where
   pub row : Connection
   pub there : connection_at b.state conn ≡ Some row
   pub spoke : row.peer ≡ Some a.setting.id
   pub accepted : row.dialled ≡ None
+  pub fits : fit_frame row ids ≡ true
 
 pub client-row : {settings : List Setting} {w : World} → Given settings w
     → (i j conn n period : ℕ) (ids : List ObjId) (rest : List Message) (a b : Space) → slice_get w.spaces i ≡ Some a
     → slice_get w.spaces j ≡ Some b → (B : Between w conn i j a b)
     → B.pipe.accepter.queue ≡ message.Dirty n period ids ∷ rest
-    → is_open b.state conn ≡ true → ClientRow a b conn
+    → is_open b.state conn ≡ true → ClientRow a b conn ids
 client-row {settings} {w} G i j conn n period ids rest a b at atj B queue live =
     of has.0 has.1 (of-welcome has.0.peer refl has.0.dialled refl
-    (is-welcome G.facts conn B.pipe Accepter (message.Dirty n period ids) rest b has.0 B.between.pipe queue
-    B.between.accepted has.1))
+    (certain (is-welcome G.facts conn B.pipe Accepter (message.Dirty n period ids) rest b has.0 B.between.pipe queue
+    B.between.accepted has.1)))
   where
     has : (row : Connection) × (connection_at b.state conn ≡ Some row)
     has = has-some (connection_at b.state conn) live
+
+    m : Message
+    m = message.Dirty n period ids
+
+    sent : IsOneOf m (sent_on conn a.outputs)
+    sent =
+        let x = of-there w.spaces B.pipe.dialler.space conn m (came_on conn b.history ++ B.pipe.accepter.queue)
+        (G.facts.delivers.brings conn B.pipe Accepter B.between.pipe b B.between.accepted)
+        (one-right m (came_on conn b.history) B.pipe.accepter.queue (subst (IsOneOf m) (sym queue) (inl refl))) in
+        subst (λ (s : Space). IsOneOf m (sent_on conn s.outputs)) (some-same (sym x.1.0 ∙ B.between.dialled)) x.1.1
+
+    -- a dirty call is on its way, so the connection tried no version in vain
+    certain : {A : Type 0} → A ⊎ IsProbe w conn → A
+    certain (inl k) = k
+    certain (inr P) = absurd (no-probe G.facts conn B.pipe a b m B.between refl (inl sent) P)
 
     of-welcome : (peer : Option Uuid) → has.0.peer ≡ peer → (dialled : Option Uuid) → has.0.dialled ≡ dialled
         → (if is_none peer then is_welcome_first b.setting has.0 (message.Dirty n period ids) else not
         (is_wrong_way (is_asking (message.Dirty n period ids)) (is_some dialled)) && is_welcome_later b.state
         has.0 (message.Dirty n period ids)) ≡ true
-        → (who : Uuid) × ((has.0.peer ≡ Some who) × (has.0.dialled ≡ None))
+        → (who : Uuid) × ((has.0.peer ≡ Some who) × ((has.0.dialled ≡ None) × (fit_frame has.0 ids ≡ true)))
     of-welcome None e d f k = absurd (true≢false (sym k))
-    of-welcome (Some who) e None f k = (who, (e, f))
+    of-welcome (Some who) e None f k = (who, (e, (f, k)))
     of-welcome (Some who) e (Some d) f k = absurd (true≢false (sym k))
 
     of : (row : Connection) → connection_at b.state conn ≡ Some row
-        → (who : Uuid) × ((row.peer ≡ Some who) × (row.dialled ≡ None)) → ClientRow a b conn
+        → (who : Uuid) × ((row.peer ≡ Some who) × ((row.dialled ≡ None) × (fit_frame row ids ≡ true)))
+        → ClientRow a b conn ids
     of row there k =
         let u = spoke-by G conn B.pipe b row k.0 B.between.pipe B.between.accepted there k.1.0 in
         let same : u.0 ≡ a = some-same (sym u.1.0 ∙ B.between.dialled) in
@@ -243,5 +260,6 @@ client-row {settings} {w} G i j conn n period ids rest a b at atj B queue live =
           there = there;
           spoke =
               k.1.0 ∙ ap {A = Uuid} {B = Option Uuid} (λ x. Some x) (u.1.1 ∙ ap (λ (s : Space). s.setting.id) same);
-          accepted = k.1.1;
+          accepted = k.1.1.0;
+          fits = k.1.1.1;
         }

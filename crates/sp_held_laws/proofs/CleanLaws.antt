@@ -60,9 +60,9 @@ part-of-group group (ids ∷ pieces) part (inl e) = (ap (λ (b : Group). b.kind)
 part-of-group group (ids ∷ pieces) part (inr a) = part-of-group group pieces part a
 
 -- a part names what its group names
-pub part-names : (r : ForeignId) (group part : Group) → IsOneOf part (groups.parts_of 1024 group) → names_ref r part ≡ true → names_ref r group ≡ true
-part-names r group part a e = (has-group r group.peer part.kind group.kind group.ids
-    (subst (IsOneOf (call_for r part.kind)) (parts-joined 1024 group (omega arith)) (in-groups r part (groups.parts_of 1024 group) a e))).1
+pub part-names : (r : ForeignId) (most : ℕ) → 1 ≤ most → (group part : Group) → IsOneOf part (groups.parts_of most group) → names_ref r part ≡ true → names_ref r group ≡ true
+part-names r most some group part a e = (has-group r group.peer part.kind group.kind group.ids
+    (subst (IsOneOf (call_for r part.kind)) (parts-joined most group (omega (arith, some))) (in-groups r part (groups.parts_of most group) a e))).1
 
 -- ---- which call was made first
 
@@ -184,16 +184,16 @@ free-below r n = record { free = λ q f c. none q.asked f c }
     none (Tells call group) f c = absurd (true≢false f)
 
 -- a part of a clean call of the reference is of one
-part-clean : (r : ForeignId) (group part : Group) (call other : ℕ) → IsOneOf part (groups.parts_of 1024 group) → is_clean_of r (Tells call part) ≡ true → is_clean_of r (Tells other group) ≡ true
-part-clean r group part call other a c = both (not (is_dirty_kind group.kind)) (names_ref r group) (subst (λ k. not (is_dirty_kind k) ≡ true) (part-of-group group (groups.pieces 1024 group.ids) part a).0 (and-left (not (is_dirty_kind part.kind)) _ c))
-    (part-names r group part a (and-right (not (is_dirty_kind part.kind)) _ c))
+part-clean : (r : ForeignId) (most : ℕ) → 1 ≤ most → (group part : Group) (call other : ℕ) → IsOneOf part (groups.parts_of most group) → is_clean_of r (Tells call part) ≡ true → is_clean_of r (Tells other group) ≡ true
+part-clean r most some group part call other a c = both (not (is_dirty_kind group.kind)) (names_ref r group) (subst (λ k. not (is_dirty_kind k) ≡ true) (part-of-group group (groups.pieces most group.ids) part a).0 (and-left (not (is_dirty_kind part.kind)) _ c))
+    (part-names r most some group part a (and-right (not (is_dirty_kind part.kind)) _ c))
   where
     both : (x y : Bool) → x ≡ true → y ≡ true → x && y ≡ true
     both true y e f = f
     both false y e f = absurd (true≢false (sym e))
 
 waits-below : (r : ForeignId) (m n : ℕ) → WaitsMayGo m (Below r n)
-waits-below r m n q k waits call group e part a c conn sequence le clean = absurd (not-waiting q.stage waits (k (subst (λ x. is_clean_of r x ≡ true) (sym e) (part-clean r group part c call a clean))))
+waits-below r m n q k waits call group e most some part a c conn sequence le clean = absurd (not-waiting q.stage waits (k (subst (λ x. is_clean_of r x ≡ true) (sym e) (part-clean r most some group part c call a clean))))
   where
     not-waiting : (s : Stage) → is_waiting s ≡ true → IsOutBelow n s → ⊥
     not-waiting Waits w b = b
@@ -208,7 +208,7 @@ makes-below : (r : ForeignId) (m n : ℕ) (answers : Bool) (u : State) → is_gr
 makes-below r m n false u granted = tt
 makes-below r m n true u granted = λ b there. record {
   waits = λ call clean. absurd (none b there call clean);
-  goes = λ part a call conn sequence le clean. absurd (none b there call (part-clean r b part call call a clean));
+  goes = λ most some part a call conn sequence le clean. absurd (none b there call (part-clean r most some b part call call a clean));
 }
   where
     none : (b : Group) → IsOneOf b (Requests.due_groups u.leases) → (call : ℕ) → is_clean_of r (Tells call b) ≡ true → ⊥

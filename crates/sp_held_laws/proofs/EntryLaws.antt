@@ -18,7 +18,7 @@ use Rattle.sp_rules.specs.Classes.{Setting}
 use Rattle.sp_rules.specs.Events.{Event, Moment, Sweep, Root, RootAck, Bind, Rebind, Unbind, Lookup, Opened, Refused, Received, Closed, ReadFailed, Bad, WriteFailed, Committed, Parked, GivenBack, Finished}
 use Rattle.sp_rules.specs.Frames.{that_stand}
 use Rattle.sp_rules.specs.Holders.{has_reason}
-use Rattle.sp_rules.specs.Laws.{AllOf, stands, told_after, told_by, told_on, told_from, told_in}
+use Rattle.sp_rules.specs.Laws.{AllOf, is_short, stands, told_after, told_by, told_on, told_from, told_in}
 use Rattle.sp_rules.specs.OwnEvents
 use Rattle.sp_rules.specs.References.{is_id, is_id_in}
 use Rattle.sp_rules.specs.Space
@@ -163,7 +163,11 @@ frame-stays s conn m c o calls e = on (connection_at s conn) refl
 
     on : (x : Option Connection) → connection_at s conn ≡ x → (is_some (Own c o (told_on s x m calls)).expires ≡ true) ⊎ BringsClean s (Received conn m) c o
     on None is = inl e
-    on (Some row) is = from row is row.peer row.dialled refl refl
+    on (Some row) is = short (is_short row m) (from row is row.peer row.dialled refl refl)
+      where
+        short : (b : Bool) → (is_some (Own c o (told_from row.peer row.dialled s m calls)).expires ≡ true) ⊎ BringsClean s (Received conn m) c o → (is_some (Own c o (if b then told_from row.peer row.dialled s m calls else calls)).expires ≡ true) ⊎ BringsClean s (Received conn m) c o
+        short true k = k
+        short false k = inl e
 
 -- ---- an event
 
@@ -229,7 +233,7 @@ dirty-sets c ids o n period calls told timely = pick (is_told c ids c o) told
     pick false f = absurd (true≢false (sym f))
 
 pub dirty_calls_set_entries : DirtyCallsSetEntries
-dirty_calls_set_entries g h conn number period ids row peer o there spoke accepted names standing-there timely = now g (Received conn (message.Dirty number period ids) ∷ h) peer o
+dirty_calls_set_entries g h conn number period ids row peer o there spoke accepted fits names standing-there timely = now g (Received conn (message.Dirty number period ids) ∷ h) peer o
     ∙ (ap (λ calls. is_some (Own peer o calls).expires) tells ∙ dirty-sets peer (that_stand s ids) o number period (told_after g h) told (sym (ap (λ (r : Remembered). is_late r number) (entries_are_told g h peer o)) ∙ timely))
   where
     s : State
@@ -244,4 +248,4 @@ dirty_calls_set_entries g h conn number period ids row peer o there spoke accept
         (stands-among (is_id_in (map (λ (x : Object). x.id) (standing s.store))) ids o (λ x same. subst (λ (i : ObjId). stands s i ≡ true) (Rattle.sp_rules.proofs.SweepLemmas.one-id o x same) standing-there) names)
 
     tells : told_on s (connection_at s conn) (message.Dirty number period ids) (told_after g h) ≡ owner.Dirty peer (that_stand s ids) number period ∷ told_after g h
-    tells = ap (λ x. told_on s x (message.Dirty number period ids) (told_after g h)) there ∙ (ap (λ x. told_from x row.dialled s (message.Dirty number period ids) (told_after g h)) spoke ∙ ap (λ x. told_from (Some peer) x s (message.Dirty number period ids) (told_after g h)) accepted)
+    tells = ap (λ x. told_on s x (message.Dirty number period ids) (told_after g h)) there ∙ (ap (λ b. if b then told_from row.peer row.dialled s (message.Dirty number period ids) (told_after g h) else told_after g h) fits ∙ (ap (λ x. told_from x row.dialled s (message.Dirty number period ids) (told_after g h)) spoke ∙ ap (λ x. told_from (Some peer) x s (message.Dirty number period ids) (told_after g h)) accepted))

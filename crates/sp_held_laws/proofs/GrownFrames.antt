@@ -1,6 +1,6 @@
 -- Each rule of frames, endings and own events keeps the references that are started of one kind, and what is told of leases.
 use mathlib.Core.Path.{sym, subst}
-use Rattle.std.specs.Prelude.{◌≡◌, refl, ℕ, ◌≤◌, ◌&&◌, ◌||◌, not, nat_le, nat_lt, is_some, is_none, Bool, true, false, List, [], ◌∷◌, ◌++◌, Option, None, Some, Result, Ok, Err, filter, find, map, fold, if◌then◌else◌}
+use Rattle.std.specs.Prelude.{◌≡◌, refl, ℕ, ◌≤◌, ◌==◌, ◌&&◌, ◌||◌, not, nat_le, nat_lt, is_some, is_none, Bool, true, false, List, [], ◌∷◌, ◌++◌, Option, None, Some, Result, Ok, Err, filter, find, map, fold, if◌then◌else◌}
 use Rattle.std.specs.List.{list_any, list_all}
 use Rattle.std.specs.Str.{bytes_eq}
 use Rattle.dgc_client.specs.History as lease_events
@@ -42,7 +42,7 @@ use Rattle.sp_rules.specs.Tasks.{stand, steps}
 use Rattle.sp_rules.proofs.AllLemmas.{all-weaken, all-filter, all-map, all-found, found-is}
 use Rattle.sp_rules.proofs.OriginLemmas.{FieldsAre, ReplyIs, OpBrings, EndIs}
 use Rattle.sp_rules.proofs.OriginsOfFrames.{orphan-value}
-use Rattle.sp_held_laws.proofs.GrownRules.{Grown, Plain, quiet, now_results, now_told, if_grown, some_grown, each_grown, send_grown, hold_grown, drop_grown, flush_grown, add_task_grown, keep_grown, reply_to_grown, commit_grown, park_grown, give_back_grown, finish_grown}
+use Rattle.sp_held_laws.proofs.GrownRules.{Grown, Plain, quiet, now_results, now_told, if_grown, some_grown, each_grown, send_grown, dial_grown, hold_grown, drop_grown, flush_grown, add_task_grown, keep_grown, reply_to_grown, commit_grown, park_grown, give_back_grown, finish_grown}
 
 -- ---- parked frames
 
@@ -149,12 +149,15 @@ end_requests_grown M is why h =
     each_grown _ _ (λ t q k. end_asked_grown M (why q.asked) q.asked k)
     (each_grown _ _ (λ t q k. end_asked_grown M (why q.asked) q.asked k) (quiet _ refl h))
 
+let_connection_go_grown : {g : Setting} {Is : Ref → Type 0} {T : List Told → Type 0} {K : ParkedFrame → Type 0} {s : State} (M : Plain g Is T) (conn : ℕ) → Grown g Is T K s → Grown g Is T K (Endings.let_connection_go conn s)
+let_connection_go_grown {g} {Is} {s = s} M conn h =
+    each_grown _ _ (λ t p k. let_go_grown M p t.parked (take_grown p k)) (quiet (Endings.without_connection conn s) refl
+    (now_results (map (Endings.orphan conn s.moment) s.results) (all-map (λ (k : KeptResult). AllOf Is (references_in k.value)) (λ (k : KeptResult). AllOf Is (references_in k.value)) (Endings.orphan conn s.moment) s.results
+    (λ k a. subst (λ v. AllOf Is (references_in v)) (sym (orphan-value conn s.moment k)) a) h.parts.results) h))
+
 end_connection_grown : {g : Setting} {Is : Ref → Type 0} {T : List Told → Type 0} {K : ParkedFrame → Type 0} {s : State} (M : Plain g Is T) (why : Asked → ClassId) (conn : ℕ) → Grown g Is T K s → Grown g Is T K (Endings.end_connection g why conn s)
 unfolding Endings.end_connection
-end_connection_grown {g} {Is} {s = s} M why conn h = some_grown (connection_at s conn) _ h (λ c is. end_requests_grown M _ why
-    (each_grown _ _ (λ t p k. let_go_grown M p t.parked (take_grown p k)) (quiet (Endings.without_connection conn s) refl
-    (now_results (map (Endings.orphan conn s.moment) s.results) (all-map (λ (k : KeptResult). AllOf Is (references_in k.value)) (λ (k : KeptResult). AllOf Is (references_in k.value)) (Endings.orphan conn s.moment) s.results
-    (λ k a. subst (λ v. AllOf Is (references_in v)) (sym (orphan-value conn s.moment k)) a) h.parts.results) h))))
+end_connection_grown {s = s} M why conn h = some_grown (connection_at s conn) _ h (λ c is. end_requests_grown M _ why (let_connection_go_grown M conn h))
 
 pub close_grown : {g : Setting} {Is : Ref → Type 0} {T : List Told → Type 0} {K : ParkedFrame → Type 0} {s : State} (M : Plain g Is T) (class : ClassId) (conn : ℕ) → Grown g Is T K s → Grown g Is T K (Endings.close g class conn s)
 unfolding Endings.close
@@ -166,10 +169,20 @@ fail_write_grown M conn unsent h = end_connection_grown M _ conn h
 
 -- ---- frames that come
 
+say_hello_grown : {g : Setting} {Is : Ref → Type 0} {T : List Told → Type 0} {K : ParkedFrame → Type 0} {s : State} (version conn : ℕ) → Grown g Is T K s → Grown g Is T K (Frames.say_hello g version conn s)
+say_hello_grown {g} {s = s} version conn h = quiet _ refl (send_grown {s = s} Rattle.sp_rules.specs.Events.Hellos conn (message.Hello version g.id g.digest) h)
+
+redial_grown : {g : Setting} {Is : Ref → Type 0} {T : List Told → Type 0} {K : ParkedFrame → Type 0} {s : State} (M : Plain g Is T) (peer : Uuid) (conn : ℕ) → Grown g Is T K s → Grown g Is T K (Endings.redial peer conn s)
+unfolding Endings.redial
+redial_grown {s = s} M peer conn h = dial_grown peer (quiet _ refl (let_connection_go_grown {s = Endings.note_peer peer s} M conn (quiet _ refl h)))
+
 first_grown : {g : Setting} {Is : Ref → Type 0} {T : List Told → Type 0} {K : ParkedFrame → Type 0} {s : State} (M : Plain g Is T) (c : Connection) (m : Message) → Grown g Is T K s → Grown g Is T K (Frames.first_frame g c m s)
 unfolding Frames.first_frame
-first_grown {g} M c (message.Hello version space digest) h = some_grown c.dialled _ (if_grown (bytes_eq digest g.digest) (quiet _ refl h) (close_grown M _ c.number h))
-    (λ peer is. if_grown (bytes_eq digest g.digest && bytes_eq space peer) (flush_grown M peer c.number (quiet _ refl h)) (close_grown M _ c.number h))
+first_grown {g} {Is} {T} {K} {s} M c (message.Hello version space digest) h = some_grown c.dialled _ (if_grown (bytes_eq digest g.digest && nat_le version g.version) (if_grown (nat_le 2 g.version) (say_hello_grown _ c.number known) known) (close_grown M _ c.number h))
+    (λ peer is. if_grown (bytes_eq digest g.digest && bytes_eq space peer) (if_grown (version == c.version) (flush_grown M peer c.number known) (if_grown (nat_le 2 c.version && version == 1) (redial_grown M peer c.number h) (close_grown M _ c.number h))) (close_grown M _ c.number h))
+  where
+    known : Grown g Is T K (Frames.greeted space c.number s)
+    known = quiet _ refl h
 first_grown M c (message.Call number object method fuel arguments) h = close_grown M _ c.number h
 first_grown M c (message.Returned number fuel value) h = close_grown M _ c.number h
 first_grown M c (message.Threw number class) h = close_grown M _ c.number h
@@ -304,9 +317,9 @@ got_grown M c (message.Returned number fuel value) b h = answered_by_grown M c n
 got_grown {g} M c (message.Threw number class) b h = answered_by_grown M c number _ (λ q is. ends_as_grown M c number (λ a. Frames.thrown_reply g class) q.asked tt h) h
 got_grown {g} {Is} M c (message.Spent number) b h = answered_by_grown M c number _ (λ q is. ends_as_grown M c number (Frames.spent_reply g) q.asked (spent-is g Is q.asked) h) h
 got_grown M c (message.Ack number) b h = got_ack_grown M c number h
-got_grown M c (message.Dirty sequence period objects) b h = send_grown _ c.number _ (quiet _ refl h)
+got_grown M c (message.Dirty sequence period objects) b h = if_grown (Frames.fit_frame c objects) (send_grown _ c.number _ (quiet _ refl h)) (close_grown M _ c.number h)
 got_grown M c (message.Lease sequence period) b h = told_by_grown M c true sequence _ b h
-got_grown M c (message.Clean sequence strong objects) b h = send_grown _ c.number _ (quiet _ refl h)
+got_grown M c (message.Clean sequence strong objects) b h = if_grown (Frames.fit_frame c objects) (send_grown _ c.number _ (quiet _ refl h)) (close_grown M _ c.number h)
 got_grown M c (message.Cleaned sequence) b h = told_by_grown M c false sequence _ b h
 got_grown M c (message.Lookup number name) b h = got_lookup_grown M c number name h
 
@@ -366,8 +379,8 @@ lookup_grown peer name h = if_grown (is_name name) (quiet _ refl h) (quiet _ ref
 
 opened_grown : {g : Setting} {Is : Ref → Type 0} {T : List Told → Type 0} {K : ParkedFrame → Type 0} {s : State} (conn : ℕ) (dialled : Option Uuid) → Grown g Is T K s → Grown g Is T K (OwnEvents.on_opened g conn dialled s)
 unfolding OwnEvents.on_opened
-opened_grown conn None h = send_grown _ conn _ (quiet _ refl h)
-opened_grown conn (Some peer) h = send_grown _ conn _ (quiet _ refl h)
+opened_grown {g} {s = s} conn None h = if_grown (nat_le 2 g.version) (quiet _ refl h) (say_hello_grown {s = OwnEvents.add_connection conn None s} 1 conn (quiet _ refl h))
+opened_grown {s = s} conn (Some peer) h = say_hello_grown {s = OwnEvents.dialled_no_more (Some peer) (OwnEvents.add_connection conn (Some peer) s)} _ conn (quiet _ refl h)
 
 refused_grown : {g : Setting} {Is : Ref → Type 0} {T : List Told → Type 0} {K : ParkedFrame → Type 0} {s : State} (M : Plain g Is T) (peer : Uuid) → Grown g Is T K s → Grown g Is T K (OwnEvents.on_refused g peer s)
 unfolding OwnEvents.on_refused

@@ -269,7 +269,7 @@ module _ {settings : List Setting} {r : ForeignId} {w : World} (E : Entered sett
   dirty-enters e conn n period ids first taken foreign out =
       E.below.sets b.setting b.history conn n period ids row.row a.setting.id r.id
       (subst (λ (s : State). Rattle.sp_rules.specs.State.connection_at s conn ≡ Some row.row) known.state row.there)
-      row.spoke row.accepted names
+      row.spoke row.accepted row.fits names
       (subst (λ (s : State). stands s r.id ≡ true) known.state (dirty-stands E i j a b at atj own conn n foreign out))
       (subst (λ (s : State). is_late (owner.remembered_of s.owner.entries a.setting.id r.id) n ≡ false) known.state
       (E.quiet.time conn n B.pipe a b r.id B.between
@@ -301,7 +301,7 @@ module _ {settings : List Setting} {r : ForeignId} {w : World} (E : Entered sett
           (first-of (not (is_open b.state conn)) Refusals.Strange []
           (unrefused b.setting (lent_for (Received conn m)) b.state (Received conn m) taken)).0
 
-      row : ClientRow a b conn
+      row : ClientRow a b conn ids
       row = client-row G i j conn n period ids comes.rest a b at atj B queue live
 
       names : is_id_in ids r.id ≡ true

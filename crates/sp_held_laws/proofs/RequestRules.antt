@@ -3,6 +3,7 @@ use mathlib.Core.Path.{sym, ap, subst, ◌∙◌}
 use Rattle.std.proofs.Common.{arith, inl, inr}
 use Rattle.std.proofs.lemmas.Bool.{true≢false}
 use Rattle.std.specs.Prelude.{◌≡◌, refl, ℕ, ◌+◌, ◌≤◌, ◌&&◌, ◌||◌, not, is_some, Bool, true, false, List, [], ◌∷◌, ◌++◌, Option, None, Some, filter, if◌then◌else◌}
+use Rattle.sp_rules.proofs.LineLemmas.{most-some}
 use Rattle.dgc_client.specs.Groups as groups
 use Rattle.dgc_client.specs.History as lease_events
 use Rattle.dgc_client.specs.Table as client
@@ -45,7 +46,7 @@ pub record RowKind (R : Request → Type 0) : Type 0 where
 
 -- a group may go out: each of its parts, under a new number
 abbrev pub MayGoOut : ℕ → (Request → Type 0) → Group → Type 0
-MayGoOut n R group = (part : Group) → IsOneOf part (groups.parts_of 1024 group) → (call conn sequence : ℕ) → n + 1 ≤ sequence → R (record { peer = part.peer; asked = Tells call part; stage = Out conn sequence })
+MayGoOut n R group = (most : ℕ) → 1 ≤ most → (part : Group) → IsOneOf part (groups.parts_of most group) → (call conn sequence : ℕ) → n + 1 ≤ sequence → R (record { peer = part.peer; asked = Tells call part; stage = Out conn sequence })
 
 -- and it may be made
 pub record MayBeMade (n : ℕ) (R : Request → Type 0) (group : Group) : Type 0 where
@@ -88,6 +89,7 @@ rows_moves g n R K = record {
   parks = λ l s p h. h;
   takes = λ l s p h. h;
   counts = λ l s conn number h. h;
+  versions = λ l s conn version h. h;
   closes = λ l s conn h. h;
 }
 
@@ -139,7 +141,7 @@ out-rows n R K turn conn q s may h = by q.asked refl
     by : (asked : Asked) → q.asked ≡ asked → Rows n R (Requests.goes_out turn conn q.peer asked s)
     by (Calls number task lent kind m) e = rows-if n R (is_open s conn) _ _ (more _ refl) (more _ refl)
     by (LooksUp number task name) e = rows-if n R (is_open s conn) _ _ (more _ refl) (more _ refl)
-    by (Tells call group) e = parts-rows n R turn conn call (groups.parts_of 1024 group) s (λ part a sequence le. may call group e part a call conn sequence le) h
+    by (Tells call group) e = parts-rows n R turn conn call (groups.parts_of (Requests.most_on s conn) group) s (λ part a sequence le. may call group e (Requests.most_on s conn) (most-some s conn) part a call conn sequence le) h
 
 outs-rows : (n : ℕ) (R : Request → Type 0) → RowKind R → (turn : Turn) (conn : ℕ) (qs : List Request) (s : State) → AllOf (λ (q : Request). (call : ℕ) (group : Group) → q.asked ≡ Tells call group → MayGoOut n R group) qs → Rows n R s → Rows n R (each (λ t r. Requests.go_out turn conn r t) qs s)
 unfolding each
@@ -250,7 +252,7 @@ abbrev AnyRow : Request → Type 0
 AnyRow q = Unit {0}
 
 any-made : (n : ℕ) (b : Group) → MayBeMade n AnyRow b
-any-made n b = record { waits = λ call. tt; goes = λ part a call conn sequence le. tt }
+any-made n b = record { waits = λ call. tt; goes = λ most some part a call conn sequence le. tt }
 
 any-well : (n : ℕ) (b : Bool) (u : State) → MakesWell n AnyRow b u
 any-well n true u = λ b a. any-made n b
@@ -264,5 +266,5 @@ any-rows (q ∷ qs) = (tt, any-rows qs)
 pub fresh-of : (g : Setting) (h : List Event) → AllOf (λ (q : Request). is_group q.asked ≡ false) (Space.state_of g h).fresh
 unfolding Space.state_of opening
 fresh-of g [] = tt
-fresh-of g (e ∷ h) = (on-rows g 0 AnyRow (record { free = λ q f. tt }) (λ q k w call group f part a c conn sequence le. tt) (Space.state_of g h) e (any-well 0 (Space.answers_outputs e) (Space.happen g e (Space.state_of g h)))
+fresh-of g (e ∷ h) = (on-rows g 0 AnyRow (record { free = λ q f. tt }) (λ q k w call group f most some part a c conn sequence le. tt) (Space.state_of g h) e (any-well 0 (Space.answers_outputs e) (Space.happen g e (Space.state_of g h)))
     (record { low = omega arith; rows = any-rows (Space.state_of g h).requests; fresh = fresh-of g h })).fresh

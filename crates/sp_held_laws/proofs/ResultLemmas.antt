@@ -111,6 +111,8 @@ stay_view g e conn number value = record {
   Fails = λ c. is_ending e ≡ true;
   Ends = λ a r. Unit {0};
   Starts = λ o n a. Unit {0};
+  Speaks = λ c version. Unit {0};
+  Fits = λ c ids. Unit {0};
   Keeps = λ l s. Stays e conn number value s.results;
 }
 
@@ -137,6 +139,8 @@ stay_flow g e conn number value = record {
   gives = λ p v fuel asked is a b c. tt;
   refuses = λ c n class is. tt;
   finds = λ c n name r is own. tt;
+  speaks = λ c version. tt;
+  fits = λ c ids. tt;
   quiet = λ l s t eq k. subst (λ (c : EventParts). Stays e conn number value c.results) (sym eq) k;
   says = λ l s output is so k. k;
   sends = λ l s turn c m may held k. k;
@@ -241,6 +245,8 @@ sent_view g e h = record {
   Fails = λ c. is_ending e ≡ true;
   Ends = λ a r. Unit {0};
   Starts = λ o n a. Unit {0};
+  Speaks = λ c version. Unit {0};
+  Fits = λ c ids. Unit {0};
   Keeps = λ l s. Directed (e ∷ h) l (event_parts s) × AllOf (Sent e s.results) s.notes;
 }
 
@@ -303,6 +309,8 @@ sent_flow g e h = record {
   gives = D.gives;
   refuses = D.refuses;
   finds = D.finds;
+  speaks = λ c version. tt;
+  fits = λ c ids. tt;
   quiet = λ l s t eq k. (D.quiet l s t eq k.0, subst (λ (c : EventParts). AllOf (Sent e c.results) c.notes) (sym eq) k.1);
   says = λ l s output is so k. (D.says l s output is so k.0, all-more (Sent e s.results) s.notes (Says output) k.1 is);
   sends = λ l s turn c m may held k. (D.sends l s turn c m may held k.0, all-more (Sent e s.results) s.notes (Sends turn c m) k.1 (sends-it g e h s.results turn c m may held));

@@ -1,6 +1,6 @@
 -- Where nothing fails no clean call of a reference that is granted is on its way.
 use mathlib.Core.Path.{sym, ap, subst, ◌∙◌}
-use Rattle.std.proofs.Common.{arith, inl}
+use Rattle.std.proofs.Common.{arith, inl, inr}
 use Rattle.std.proofs.lemmas.Bool.{true≢false, eqb-true}
 use Rattle.std.specs.List.{list_any, flat_map}
 use Rattle.std.specs.Prelude.{◌≡◌, ◌⊎◌, refl, ℕ, ◌+◌, ◌≤◌, ◌==◌, ◌&&◌, ◌||◌, not, is_some, Bool, true, false, cond, List, [], ◌∷◌, ◌++◌, Option, None, Some, find, slice_get}
@@ -15,7 +15,7 @@ use Rattle.sp_rules.specs.Frames.{is_dirty_kind}
 use Rattle.sp_rules.specs.Laws.{RisesWithin}
 use Rattle.sp_rules.specs.Lines.{HasLines}
 use Rattle.sp_rules.specs.References.{is_id_in}
-use Rattle.sp_rules.specs.State.{State, Request, Connection, connection_at}
+use Rattle.sp_rules.specs.State.{State, Request, Connection, connection_at, is_open}
 use Rattle.sp_rules.specs.Worlds.{World, Space, Pipe, Accepter, Dialler, WorldEvent, run, new_world}
 use Rattle.sp_rules.proofs.LinesOfRules.{lines_wait_for_hellos}
 use Rattle.sp_rules.proofs.AllLemmas.{found-is}
@@ -27,9 +27,9 @@ use Rattle.sp_order_laws.proofs.NoteLemmas.{flat-append}
 use Rattle.sp_order_laws.proofs.WorldFacts.{Known, at-all}
 use Rattle.sp_order_laws.specs.Unbroken.{AreOfOneKind, NothingFails}
 use Rattle.sp_order_laws.proofs.TimeLemmas.{Given, Dialled, dialled-there, one-dialled, found-in}
-use Rattle.sp_order_laws.proofs.WelcomeFrames.{row-opened, dialler-row}
+use Rattle.sp_order_laws.proofs.WelcomeFrames.{row-opened, dialler-row, ends-open}
 use Rattle.sp_order_laws.specs.Unbroken.{IsJoined, ends_at}
-use Rattle.sp_order_laws.proofs.WelcomeLemmas.{ends-of, Facts, one-some, one-left, one-right}
+use Rattle.sp_order_laws.proofs.WelcomeLemmas.{ends-of, Facts, of-there, one-some, one-left, one-right}
 use Rattle.sp_order_laws.proofs.HeardLemmas.{owners_hear_what_came}
 use Rattle.sp_order_laws.proofs.UnbrokenLaws.{Laws, facts-of, standing-of}
 use Rattle.sp_order_laws.proofs.WorldStays.{Standing}
@@ -79,7 +79,12 @@ secure {settings} {w} G U conn n strong ids p a b r between same granted there =
         lines = subst HasLines (sym known.state) (lines_wait_for_hellos a.setting a.history known.taken)
 
         row : (q : Pipe) → slice_get w.pipes unc.conn ≡ Some q → (o : Option Connection) → connection_at a.state unc.conn ≡ o → unc.conn ≡ conn
-        row q is None e = absurd (true≢false (sym (G.stays p.dialler.space a between.dialled unc.conn (Some r.space) unc.opened) ∙ ap (λ (o : Option Connection). is_some o) e))
+        row q is None e =
+            let joins : IsJoined w.spaces p.dialler.space (Some r.space) (Some (q.dialler.space, q.accepter.space)) = subst (IsJoined w.spaces p.dialler.space (Some r.space)) (ends-of w.pipes unc.conn q is) joined in
+            let at : slice_get w.spaces q.dialler.space ≡ Some a = ap (slice_get w.spaces) joins.0 ∙ between.dialled in
+            let x = of-there w.spaces q.accepter.space unc.conn (message.Lease unc.number unc.period) (came_on unc.conn a.history ++ q.dialler.queue) (F.delivers.brings unc.conn q Dialler is a at) (one-left (message.Lease unc.number unc.period) (came_on unc.conn a.history) q.dialler.queue unc.lease) in
+            let open-there : is_open a.state unc.conn ≡ true = (ends-open F unc.conn q a x.0 (message.Lease unc.number unc.period) (record { pipe = is; dialled = at; accepted = x.1.0 }) refl (inr x.1.1)).0 (Some r.space) unc.opened in
+            absurd (true≢false (sym open-there ∙ ap (λ (o : Option Connection). is_some o) e))
         row q is (Some c) e = who c.dialled refl (dialler-row F unc.conn q a c is here e) (subst (IsJoined w.spaces p.dialler.space c.dialled) (ends-of w.pipes unc.conn q is) (row-opened F p.dialler.space unc.conn a c between.dialled e))
           where
             ends : IsJoined w.spaces p.dialler.space (Some r.space) (Some (q.dialler.space, q.accepter.space))
@@ -137,7 +142,7 @@ granted_references_stay_secure U given settings events kind fine = secure (given
 
 -- what is known of each world in which nothing fails
 pub given-of : Laws → (settings : List Setting) (events : List WorldEvent) → AreOfOneKind settings → NothingFails events → Given settings (run (new_world settings) events)
-given-of L settings events kind fine = record { facts = facts-of L settings events kind h; stays = h.stays; begins = connections_begin_in_order settings events; heard = owners_hear_what_came settings events; rise = numbers_rise L.ways L.sent settings events }
+given-of L settings events kind fine = record { facts = facts-of L settings events kind h; begins = connections_begin_in_order settings events; heard = owners_hear_what_came settings events; rise = numbers_rise L.ways L.sent settings events }
   where
     h : Standing settings (run (new_world settings) events)
     h = standing-of L settings events kind fine

@@ -190,7 +190,7 @@ out-told T keeps turn conn q s h = goes q.asked
     goes : (asked : Asked) → T (Requests.goes_out turn conn q.peer asked s).leases
     goes (Calls number task lent kind m) = told-if T (is_open s conn) _ _ h h
     goes (LooksUp number task name) = told-if T (is_open s conn) _ _ h h
-    goes (Tells call group) = parts-told T keeps turn conn call (groups.parts_of 1024 group) s h
+    goes (Tells call group) = parts-told T keeps turn conn call (groups.parts_of (Requests.most_on s conn) group) s h
 
 ask-told : (T : List Told → Type 0) → SendsKeep T → (s : State) (q : Request) → T s.leases → T (Requests.ask s q).leases
 unfolding Requests.ask Requests.dial

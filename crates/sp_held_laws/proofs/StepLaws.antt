@@ -102,7 +102,7 @@ is-out (Answered conn) = false
 
 old-parts : (n : ℕ) (s : State) (group : Group) → MayGoOut n (Old n s) group
 unfolding number-of
-old-parts n s group part a call conn sequence le c d number b asked out low = let e : sequence ≡ number = ap number-of out in absurd (omega arith)
+old-parts n s group most some part a call conn sequence le c d number b asked out low = let e : sequence ≡ number = ap number-of out in absurd (omega arith)
 
 old-made : (n : ℕ) (s : State) (group : Group) → MayBeMade n (Old n s) group
 unfolding is-out

@@ -1,13 +1,13 @@
 -- A run of spaces of one kind in which nothing fails: a reference passes from one space through another to a third (Java RMI specification, 3.3: a live reference may be passed on).
-use Rattle.std.specs.Prelude.{◌≡◌, ℕ, zero, suc, ◌||◌, Bool, true, List, [], ◌∷◌, ◌++◌, None, Some, map}
+use Rattle.std.specs.Prelude.{◌≡◌, ℕ, zero, suc, ◌||◌, Bool, true, List, [], ◌∷◌, ◌++◌, None, Some}
 use Rattle.space_ids.specs.declared.value.Value.{Value}
 use Rattle.space_ids.specs.declared.value.Value.TheVariants as values
 use Rattle.sp_rules.specs.Classes.{Setting}
 use Rattle.sp_rules.specs.Events.{Root, RootAck, Bind, Unbind, Lookup, Sweep}
 use Rattle.sp_rules.specs.Worlds.{World, WorldEvent, Own, after, run, new_world}
 use Rattle.sp_scripts.specs.Names.{counter_make, user_make, user_pass, counter_class, user_class}
-use Rattle.sp_scripts.specs.Programs.{setting_of}
-use Rattle.sp_scripts.specs.Scripts.{possible, spaces_from}
+use Rattle.sp_scripts.specs.Scripts.{possible}
+use Rattle.sp_scripts.specs.VersionsScripts.{settings_as}
 use Rattle.sp_order_laws.specs.Unbroken.{AreOfOneKind, NothingFails}
 use Rattle.sp_held_laws.specs.Runs.{has_passed, is_passing}
 
@@ -49,11 +49,15 @@ passing_parts =
     ∷ Settles
     ∷ []
 
+-- three spaces of version 1 of the frames; and three of which the first alone is, so that the others try version 2 with it in vain
 abbrev pub three_spaces : List Setting
-three_spaces = map setting_of (spaces_from 1 3)
+three_spaces = settings_as 1 (1 ∷ 1 ∷ 1 ∷ [])
 
-abbrev pub passing_events : List WorldEvent
-passing_events = events_of passing_parts (new_world three_spaces)
+abbrev pub mixed_spaces : List Setting
+mixed_spaces = settings_as 1 (1 ∷ 2 ∷ 2 ∷ [])
+
+abbrev pub passing_events : List Setting → List WorldEvent
+passing_events settings = events_of passing_parts (new_world settings)
 
 -- whether some world on the way is so
 unfoldable pub comes_to : (World → Bool) → World → List WorldEvent → Bool
@@ -61,8 +65,12 @@ comes_to is w [] = is w
 comes_to is w (e ∷ es) = is w || comes_to is (after w e) es
 
 -- The spaces are of one kind, nothing fails, and on the way a frame that names the first one's object is parked at the second space; and then the second space holds it, by a lease and an entry, and nothing of the first space holds it.
-pub record PassesQuietly : Type 0 where
-  pub kind : AreOfOneKind three_spaces
-  pub fine : NothingFails passing_events
-  pub passing : comes_to is_passing (new_world three_spaces) passing_events ≡ true
-  pub passes : comes_to has_passed (new_world three_spaces) passing_events ≡ true
+pub record PassesQuietlyIn (settings : List Setting) : Type 0 where
+  pub kind : AreOfOneKind settings
+  pub fine : NothingFails (passing_events settings)
+  pub passing : comes_to is_passing (new_world settings) (passing_events settings) ≡ true
+  pub passes : comes_to has_passed (new_world settings) (passing_events settings) ≡ true
+
+-- So among spaces of one version, and among spaces of both.
+abbrev pub PassesQuietly : Type 0
+PassesQuietly = PassesQuietlyIn three_spaces × PassesQuietlyIn mixed_spaces

@@ -12,7 +12,7 @@ use Rattle.space_ids.specs.declared.ids.ObjId.{ObjId}
 use Rattle.uuid.specs.declared.Uuid.{Uuid}
 use Rattle.sp_rules.specs.Classes.{Setting}
 use Rattle.sp_rules.specs.Events.{Event, Moment, Received}
-use Rattle.sp_rules.specs.Frames.{tells_of}
+use Rattle.sp_rules.specs.Frames.{fit_frame, tells_of}
 use Rattle.sp_rules.specs.Holders.{lease_now}
 use Rattle.sp_rules.specs.Laws.{stands}
 use Rattle.sp_rules.specs.Origins.{IsTaken}
@@ -84,7 +84,7 @@ abbrev pub EntriesStayUntilCleaned : Type 0
 EntriesStayUntilCleaned = (g : Setting) (h : List Event) (e : Event) (client : Uuid) (o : ObjId) → has_entry_for (state_of g h) client o ≡ true → expires_with e (owner.remembered_of (state_of g h).owner.entries client o).expires ≡ false
     → (has_entry_for (state_of g (e ∷ h)) client o ≡ true) ⊎ BringsClean (state_of g h) e client o
 
--- A dirty call that comes in time sets the entry of its client for each object that it names and that stands.
+-- A dirty call that comes in time, of no more ids than its connection's version allows, sets the entry of its client for each object that it names and that stands.
 abbrev pub DirtyCallsSetEntries : Type 0
-DirtyCallsSetEntries = (g : Setting) (h : List Event) (conn number period : ℕ) (ids : List ObjId) (row : Connection) (peer : Uuid) (o : ObjId) → connection_at (state_of g h) conn ≡ Some row → row.peer ≡ Some peer → row.dialled ≡ None → is_id_in ids o ≡ true → stands (state_of g h) o ≡ true
+DirtyCallsSetEntries = (g : Setting) (h : List Event) (conn number period : ℕ) (ids : List ObjId) (row : Connection) (peer : Uuid) (o : ObjId) → connection_at (state_of g h) conn ≡ Some row → row.peer ≡ Some peer → row.dialled ≡ None → fit_frame row ids ≡ true → is_id_in ids o ≡ true → stands (state_of g h) o ≡ true
     → is_late (owner.remembered_of (state_of g h).owner.entries peer o) number ≡ false → has_entry_for (state_of g (Received conn (message.Dirty number period ids) ∷ h)) peer o ≡ true

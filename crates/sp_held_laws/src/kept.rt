@@ -73,8 +73,8 @@ pub fn entries_stay_until_cleaned()
     nothing_holds_what_goes();
 }
 
-/// After every history of a space a dirty call that comes in time sets the entry of its client for each
-/// object that it names and that stands.
+/// After every history of a space a dirty call that comes in time, of no more ids than its connection's
+/// version allows, sets the entry of its client for each object that it names and that stands.
 pub fn dirty_calls_set_entries()
     ensures { DirtyCallsSetEntries }
 {}
@@ -86,10 +86,10 @@ pub fn events_reach_one_space()
     ensures { EventsReachOneSpace }
 {}
 
-/// In every run of every world of spaces that have ids of their own and one digest, in which no Dial is
-/// refused and no read or write fails: a clean call on its way to an owner names no object of a reference
-/// that is granted to its client. So none does of what a task that has started, a field or a held result of
-/// the client has.
+/// In every run of every world of spaces of version 1 or 2 that have ids of their own and one digest, in
+/// which no Dial is refused and no read or write fails: a clean call on its way to an owner names no
+/// object of a reference that is granted to its client. So none does of what a task that has started, a
+/// field or a held result of the client has.
 pub fn granted_references_stay_secure()
     ensures { GrantedReferencesStaySecure }
 {
@@ -108,10 +108,10 @@ pub fn granted_references_stay_secure()
     granted_references_are_uncleaned();
 }
 
-/// In every run of every world of spaces that have ids of their own and one digest, in which no Dial is
-/// refused and no read or write fails: a clean call on its way to an owner names no object of a reference
-/// that a task that has started, a field of a standing object or a held result of the client has, as long as
-/// a holder of the reference came fewer than 2^64 - 1 times.
+/// In every run of every world of spaces of version 1 or 2 that have ids of their own and one digest, in
+/// which no Dial is refused and no read or write fails: a clean call on its way to an owner names no
+/// object of a reference that a task that has started, a field of a standing object or a held result of
+/// the client has, as long as a holder of the reference came fewer than 2^64 - 1 times.
 pub fn what_is_held_is_not_cleaned()
     ensures { WhatIsHeldIsNotCleaned }
 {

@@ -23,10 +23,11 @@ use sp_order_laws::laws::{
 use sp_order_laws::worlds::{parked_results_came, what_comes_was_sent};
 use sp_rules::laws::{histories_are_taken, own_references_stand, states_are_histories};
 
-/// In every run of every world of spaces that have ids of their own and one digest, in which no Dial is
-/// refused, no read or write fails and no entry for an object expires: of each reference to the object that
-/// is granted to a client the object's owner has an entry of the client. This holds as long as a holder of
-/// the reference came fewer than 2^64 - 1 times in each space, here and in the laws below.
+/// In every run of every world of spaces of version 1 or 2 that have ids of their own and one digest, in
+/// which no Dial is refused, no read or write fails and no entry for an object expires: of each reference
+/// to the object that is granted to a client the object's owner has an entry of the client. This holds as
+/// long as a holder of the reference came fewer than 2^64 - 1 times in each space, here and in the laws
+/// below.
 pub fn granted_references_have_entries()
     ensures { GrantedReferencesHaveEntries }
 {

@@ -22,7 +22,7 @@ pub fn frames_are_lost_and_calls_wait()
 {}
 
 /// Three spaces are of one kind, and in a run of them in which nothing fails a reference passes from one
-/// through another to the third.
+/// through another to the third: three of version 1, and three of which the first alone is.
 pub fn a_reference_passes_where_nothing_fails()
     ensures { PassesQuietly }
 {}

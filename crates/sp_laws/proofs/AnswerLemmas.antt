@@ -114,6 +114,8 @@ answer_view g e h before = record {
   Fails = λ c. Unit {0};
   Ends = λ a r. Unit {0};
   Starts = λ o n a. Unit {0};
+  Speaks = λ c version. Unit {0};
+  Fits = λ c ids. Unit {0};
   Keeps = λ l s. Directed (e ∷ h) l (event_parts s) × AllOf (Told g before e) s.notes;
 }
 
@@ -171,6 +173,8 @@ answers_flow g e h before = record {
   gives = D.gives;
   refuses = D.refuses;
   finds = D.finds;
+  speaks = λ c version. tt;
+  fits = λ c ids. tt;
   quiet = λ l s t eq k. (D.quiet l s t eq k.0, subst (λ (c : EventParts). AllOf (Told g before e) c.notes) (sym eq) k.1);
   says = λ l s output is so k. (D.says l s output is so k.0, all-more (Told g before e) s.notes (Says output) k.1 (said g e before output is));
   sends = λ l s turn c m may held k. (D.sends l s turn c m may held k.0, all-more (Told g before e) s.notes (Sends turn c m) k.1 (can-answer g e h before c m may));

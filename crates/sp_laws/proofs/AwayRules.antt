@@ -1,6 +1,6 @@
 -- Each rule of a space asks other spaces alone: the references that get holders, the call or lookup of an event, and the Dials that are
 -- answered are other spaces'.
-use Rattle.std.proofs.lemmas.Bool.{true≢false}
+use Rattle.std.proofs.lemmas.Bool.{true≢false, eqb-true}
 use Rattle.std.specs.List.{list_any, flat_map, filter_map, cons_option}
 use Rattle.std.specs.Prelude.{if◌then◌else◌, ◌≡◌, refl, ℕ, zero, suc, ◌+◌, ◌==◌, ◌&&◌, ◌||◌, not, nat_le, is_some, Bool, true, false, List, [], ◌∷◌, ◌++◌, Option, None, Some, find, fold, nat_lt, is_none, Result, Ok, Err, filter}
 use Rattle.dgc_client.specs.Groups as groups
@@ -8,7 +8,8 @@ use Rattle.dgc_client.specs.History.Event.{DirtySent, DirtyFailed}
 use Rattle.dgc_client.specs.Table.{Told, On, At, Numbered}
 use Rattle.dgc_client.specs.Touched.{due_call}
 use Rattle.dgc_client.specs.declared.groups.DueCall.{DueCall}
-use Rattle.sp_rules.proofs.AllLemmas.{all-append, all-filter, all-map, all-more}
+use Rattle.sp_rules.proofs.AllLemmas.{all-append, all-filter, all-first, all-found, all-map, all-more, found-is}
+use Rattle.sp_rules.proofs.LineLemmas.{one-peer, or-none}
 use Rattle.sp_rules.proofs.OwnLemmas.{unrefused, later, first-of, not-false, and-left}
 use Rattle.sp_rules.proofs.ReadyLemmas.{ready-is}
 use Rattle.sp_rules.specs.Behaviours.{Outcome, Returned, Threw, Spent, Op, Create, Get, Put, Call, Reply, Throws}
@@ -71,9 +72,11 @@ pub record AwayParts : Type 0 where
   pub leases : List Told
   pub fresh : List Request
   pub notes : List Note
+  pub connections : List Connection
+  pub dialling : List Uuid
 
 abbrev pub away_parts : State → AwayParts
-away_parts s = record { leases = s.leases; fresh = s.fresh; notes = s.notes }
+away_parts s = record { leases = s.leases; fresh = s.fresh; notes = s.notes; connections = s.connections; dialling = s.dialling }
 
 abbrev IsOther : Setting → Request → Type 0
 IsOther g q = bytes_eq q.peer g.id ≡ false
@@ -81,10 +84,24 @@ IsOther g q = bytes_eq q.peer g.id ≡ false
 abbrev Notes : Setting → Note → Type 0
 Notes g n = IsToOther g (output_of n)
 
+-- a peer of another id
+abbrev OtherPeer : Setting → Uuid → Type 0
+OtherPeer g peer = bytes_eq peer g.id ≡ false
+
+-- a connection that was dialled, was dialled to another space
+abbrev OtherLine : Setting → Option Uuid → Type 0
+OtherLine g None = Unit {0}
+OtherLine g (Some peer) = OtherPeer g peer
+
+abbrev Lines : Setting → Connection → Type 0
+Lines g c = OtherLine g c.dialled
+
 pub record IsAway (g : Setting) (x : AwayParts) : Type 0 where
   pub leases : AllOf (IsForeign g) x.leases
   pub fresh : AllOf (IsOther g) x.fresh
   pub notes : AllOf (Notes g) x.notes
+  pub lines : AllOf (Lines g) x.connections
+  pub dialling : AllOf (OtherPeer g) x.dialling
 
 -- What a space asks is asked of others.
 pub record Away (g : Setting) (s : State) : Type 0 where
@@ -96,12 +113,20 @@ quiet : {g : Setting} {s : State} (t : State) → away_parts t ≡ away_parts s 
 quiet {g} t e h = record { parts = subst (IsAway g) (sym e) h.parts }
 
 -- something is said that is no Dial of the space itself
-noted : {g : Setting} {s : State} (t : State) (output : Output) → away_parts t ≡ record { leases = s.leases; fresh = s.fresh; notes = s.notes ++ Says output ∷ [] } → IsToOther g output → Away g s → Away g t
-noted {g} {s} t output e ok h = record { parts = subst (IsAway g) (sym e) (record { leases = h.parts.leases; fresh = h.parts.fresh; notes = all-more (Notes g) s.notes (Says output) h.parts.notes ok }) }
+noted : {g : Setting} {s : State} (t : State) (output : Output) → away_parts t ≡ record { leases = s.leases; fresh = s.fresh; notes = s.notes ++ Says output ∷ []; connections = s.connections; dialling = s.dialling } → IsToOther g output → Away g s → Away g t
+noted {g} {s} t output e ok h = record { parts = subst (IsAway g) (sym e) (record { leases = h.parts.leases; fresh = h.parts.fresh; notes = all-more (Notes g) s.notes (Says output) h.parts.notes ok; lines = h.parts.lines; dialling = h.parts.dialling }) }
 
 -- references have an event
-told : {g : Setting} {s : State} (t : State) (h : List Told) → away_parts t ≡ record { leases = h; fresh = s.fresh; notes = s.notes } → AllOf (IsForeign g) h → Away g s → Away g t
-told {g} {s} t h e ok k = record { parts = subst (IsAway g) (sym e) (record { leases = ok; fresh = k.parts.fresh; notes = k.parts.notes }) }
+told : {g : Setting} {s : State} (t : State) (h : List Told) → away_parts t ≡ record { leases = h; fresh = s.fresh; notes = s.notes; connections = s.connections; dialling = s.dialling } → AllOf (IsForeign g) h → Away g s → Away g t
+told {g} {s} t h e ok k = record { parts = subst (IsAway g) (sym e) (record { leases = ok; fresh = k.parts.fresh; notes = k.parts.notes; lines = k.parts.lines; dialling = k.parts.dialling }) }
+
+-- other connections, or other peers that are being dialled
+lined : {g : Setting} {s : State} (t : State) (cs : List Connection) (peers : List Uuid) → away_parts t ≡ record { leases = s.leases; fresh = s.fresh; notes = s.notes; connections = cs; dialling = peers } → AllOf (Lines g) cs → AllOf (OtherPeer g) peers → Away g s → Away g t
+lined {g} {s} t cs peers e lines dialling h = record { parts = subst (IsAway g) (sym e) (record { leases = h.parts.leases; fresh = h.parts.fresh; notes = h.parts.notes; lines = lines; dialling = dialling }) }
+
+-- a row of a connection changes, and not whom this space dialled
+row_away : {g : Setting} {s : State} (conn : ℕ) (f : Connection → Connection) → ((c : Connection) → (f c).dialled ≡ c.dialled) → Away g s → Away g (state.set_connection f conn s)
+row_away {g} {s} conn f same h = lined {s = s} _ _ s.dialling refl (all-first (Lines g) (λ (c : Connection). c.number == conn) f s.connections (λ c a. subst (OtherLine g) (sym (same c)) a) h.parts.lines) h.parts.dialling h
 
 if_away : {g : Setting} {t u : State} (b : Bool) → Away g t → Away g u → Away g (if b then t else u)
 if_away true h k = h
@@ -118,7 +143,7 @@ each_away {s = s} f (x ∷ xs) k h = each_away f xs k (k s x h)
 
 send_away : {g : Setting} {s : State} (turn : Turn) (conn : ℕ) (m : Message) → Away g s → Away g (send turn conn m s)
 unfolding send
-send_away {g} {s} turn conn m h = if_away (is_open s conn) (record { parts = record { leases = h.parts.leases; fresh = h.parts.fresh; notes = all-more (Notes g) s.notes (Sends turn conn m) h.parts.notes tt } }) h
+send_away {g} {s} turn conn m h = if_away (is_open s conn) (record { parts = record { leases = h.parts.leases; fresh = h.parts.fresh; notes = all-more (Notes g) s.notes (Sends turn conn m) h.parts.notes tt; lines = h.parts.lines; dialling = h.parts.dialling } }) h
 
 each_with : {A : Type 0} {s : State} (P : State → Type 0) (Q : A → Type 0) (f : State → A → State) (xs : List A) → AllOf Q xs → ((t : State) (x : A) → Q x → P t → P (f t x)) → P s → P (each f xs s)
 unfolding each
@@ -247,7 +272,8 @@ go_out_away {g} {s = s} turn conn r h = goes r.asked
 
 dial_away : {g : Setting} {s : State} (peer : Uuid) → bytes_eq peer g.id ≡ false → Away g s → Away g (Requests.dial peer s)
 unfolding Requests.dial
-dial_away {s = s} peer e h = if_away (is_some (connection_to s peer) || state.is_dialling s peer) h (noted _ (Dial peer) refl e h)
+dial_away {g} {s} peer e h = if_away (is_some (connection_to s peer) || state.is_dialling s peer) h
+    (noted {s = record s { dialling = s.dialling ++ peer ∷ [] }} _ (Dial peer) refl e (lined {s = s} _ s.connections _ refl h.parts.lines (all-more (OtherPeer g) s.dialling peer h.parts.dialling e) h))
 
 ask_away : {g : Setting} {s : State} (r : Request) → IsOther g r → Away g s → Away g (Requests.ask s r)
 unfolding Requests.ask
@@ -262,8 +288,8 @@ unfolding Requests.flush_waiting
 flush_away peer conn h = each_away _ _ (λ t r k. go_out_away _ conn r k) (quiet _ refl h)
 
 -- the call or lookup of the event is asked of another space
-fresh_away : {g : Setting} {s : State} (t : State) (rs : List Request) → away_parts t ≡ record { leases = s.leases; fresh = rs; notes = s.notes } → AllOf (IsOther g) rs → Away g s → Away g t
-fresh_away {g} {s} t rs e ok h = record { parts = subst (IsAway g) (sym e) (record { leases = h.parts.leases; fresh = ok; notes = h.parts.notes }) }
+fresh_away : {g : Setting} {s : State} (t : State) (rs : List Request) → away_parts t ≡ record { leases = s.leases; fresh = rs; notes = s.notes; connections = s.connections; dialling = s.dialling } → AllOf (IsOther g) rs → Away g s → Away g t
+fresh_away {g} {s} t rs e ok h = record { parts = subst (IsAway g) (sym e) (record { leases = h.parts.leases; fresh = ok; notes = h.parts.notes; lines = h.parts.lines; dialling = h.parts.dialling }) }
 
 settle_away : {g : Setting} {s : State} → Away g s → Away g (Requests.settle s)
 unfolding Requests.settle Requests.make_due Requests.ask_fresh
@@ -402,20 +428,42 @@ end_requests_away : {g : Setting} {s : State} (is : Request → Bool) (why : Ask
 unfolding Endings.end_requests
 end_requests_away is why h = each_away _ _ (λ t q k. end_asked_away (why q.asked) q.asked k) (each_away _ _ (λ t q k. end_asked_away (why q.asked) q.asked k) (quiet _ refl h))
 
+let_connection_go_away : {g : Setting} {s : State} (conn : ℕ) → Away g s → Away g (Endings.let_connection_go conn s)
+let_connection_go_away {g} {s} conn h = each_away _ _ (λ t p k. let_go_away p t.parked (quiet _ refl k))
+    (lined {s = s} (Endings.without_connection conn s) _ s.dialling refl (all-filter (Lines g) (λ (c : Connection). not (c.number == conn)) s.connections h.parts.lines) h.parts.dialling h)
+
 end_connection_away : {g : Setting} {s : State} (why : Asked → ClassId) (conn : ℕ) → Away g s → Away g (Endings.end_connection g why conn s)
 unfolding Endings.end_connection
-end_connection_away {s = s} why conn h = some_away (connection_at s conn) _ h (λ c is. end_requests_away _ why (each_away _ _ (λ t p k. let_go_away p t.parked (quiet _ refl k)) (quiet _ refl h)))
+end_connection_away {s = s} why conn h = some_away (connection_at s conn) _ h (λ c is. end_requests_away _ why (let_connection_go_away conn h))
 
 close_away : {g : Setting} {s : State} (class : ClassId) (conn : ℕ) → Away g s → Away g (Endings.close g class conn s)
 unfolding Endings.close
 close_away class conn h = noted _ (Close conn) refl tt (end_connection_away _ conn h)
 
+redial_away : {g : Setting} {s : State} (peer : Uuid) (conn : ℕ) → bytes_eq peer g.id ≡ false → Away g s → Away g (Endings.redial peer conn s)
+unfolding Endings.redial
+redial_away {s = s} peer conn e h = dial_away peer e (noted _ (Close conn) refl tt (let_connection_go_away {s = Endings.note_peer peer s} conn (quiet _ refl h)))
+
 -- ---- frames that come
 
-first_away : {g : Setting} {s : State} (c : Connection) (m : Message) → Away g s → Away g (Frames.first_frame g c m s)
+say_hello_away : {g : Setting} {s : State} (version conn : ℕ) → Away g s → Away g (Frames.say_hello g version conn s)
+say_hello_away {g} version conn h = row_away conn (λ (c : Connection). record c { version = version }) (λ c. refl) (send_away Rattle.sp_rules.specs.Events.Hellos conn (message.Hello version g.id g.digest) h)
+
+greeted_away : {g : Setting} {s : State} (space : Uuid) (conn : ℕ) → Away g s → Away g (Frames.greeted space conn s)
+greeted_away space conn h = row_away conn (λ (c : Connection). record c { peer = Some space }) (λ c. refl) h
+
+-- the connection on which a Hello comes is another space's, if this space dialled it
+line-of : (g : Setting) (s : State) (c : Connection) (peer : Uuid) → connection_at s c.number ≡ Some c → c.dialled ≡ Some peer → Away g s → bytes_eq peer g.id ≡ false
+line-of g s c peer is e h = subst (OtherLine g) e (all-found (Lines g) (λ (d : Connection). d.number == c.number) s.connections c is h.parts.lines)
+
+first_away : {g : Setting} {s : State} (c : Connection) (m : Message) → connection_at s c.number ≡ Some c → Away g s → Away g (Frames.first_frame g c m s)
 unfolding Frames.first_frame
-first_away {g} {s} c (message.Hello version space digest) h = some_away c.dialled _ (if_away (bytes_eq digest g.digest) (quiet _ refl h) (close_away _ c.number h)) (λ peer is. if_away (bytes_eq digest g.digest && bytes_eq space peer) (flush_away peer c.number (quiet _ refl h)) (close_away _ c.number h))
-first_away c _ h = close_away _ c.number h
+first_away {g} {s} c (message.Hello version space digest) at h = some_away c.dialled _
+    (if_away (bytes_eq digest g.digest && nat_le version g.version) (if_away (nat_le 2 g.version) (say_hello_away _ c.number (greeted_away space c.number h)) (greeted_away space c.number h)) (close_away _ c.number h))
+    (λ peer is. if_away (bytes_eq digest g.digest && bytes_eq space peer)
+    (if_away (version == c.version) (flush_away peer c.number (greeted_away space c.number h)) (if_away (nat_le 2 c.version && version == 1) (redial_away peer c.number (line-of g s c peer at is h) h) (close_away _ c.number h)))
+    (close_away _ c.number h))
+first_away c _ at h = close_away _ c.number h
 
 call_of_away : {g : Setting} {s : State} (conn number : ℕ) (o : Object) (method fuel : ℕ) (arguments : List Value) → Away g s → Away g (Frames.call_of g conn number o method fuel arguments s)
 call_of_away {g} {s = s} conn number o method fuel arguments h =
@@ -427,7 +475,7 @@ found_away conn number None h = send_away _ conn _ h
 found_away {g} conn number (Some o) h = send_away _ conn _ (keep_away (state.Acked conn number) (Some (values.Ref (record { space = g.id; id = o.id; class = o.class }))) h)
 
 counted_away : {g : Setting} {s : State} (conn number : ℕ) → Away g s → Away g (Frames.counted conn number s)
-counted_away conn number h = quiet _ refl h
+counted_away conn number h = row_away conn (λ (c : Connection). record c { last = number }) (λ c. refl) h
 
 got_call_away : {g : Setting} {s : State} (c : Connection) (number : ℕ) (target : ObjId) (method fuel : ℕ) (arguments : List Value) → Away g s → Away g (Frames.got_call g c number target method fuel arguments s)
 unfolding Frames.got_call
@@ -439,7 +487,7 @@ got_call_away {g} {s} c number target method fuel arguments h = if_away (nat_le 
 
 got_lookup_away : {g : Setting} {s : State} (c : Connection) (number : ℕ) (name : List ℕ) → Away g s → Away g (Frames.got_lookup g c number name s)
 unfolding Frames.got_lookup
-got_lookup_away {g} {s} c number name h = if_away (nat_le number c.last) (close_away _ c.number h) (found_away c.number number (Frames.object_of s (registry.lookup s.owner.names name)) (quiet _ refl h))
+got_lookup_away {g} {s} c number name h = if_away (nat_le number c.last) (close_away _ c.number h) (found_away c.number number (Frames.object_of s (registry.lookup s.owner.names name)) (counted_away c.number number h))
 
 release_away : {g : Setting} {s : State} (is : KeptResult → Bool) → Away g s → Away g (Frames.release g is s)
 unfolding Frames.release
@@ -476,16 +524,17 @@ got_away c (message.Returned number fuel value) h = answered_by_away c number _ 
 got_away {g} c (message.Threw number class) h = answered_by_away c number _ (λ asked. ends_as_away c number (λ a. Frames.thrown_reply g class) asked h) h
 got_away {g} c (message.Spent number) h = answered_by_away c number _ (λ asked. ends_as_away c number (Frames.spent_reply g) asked h) h
 got_away c (message.Ack number) h = got_ack_away c number h
-got_away c (message.Dirty sequence period objects) h = send_away _ c.number _ (quiet _ refl h)
+got_away c (message.Dirty sequence period objects) h = if_away (Frames.fit_frame c objects) (send_away _ c.number _ (quiet _ refl h)) (close_away _ c.number h)
 got_away c (message.Lease sequence period) h = told_by_away c true sequence _ (λ call. refl) h
-got_away c (message.Clean sequence strong objects) h = send_away _ c.number _ (quiet _ refl h)
+got_away c (message.Clean sequence strong objects) h = if_away (Frames.fit_frame c objects) (send_away _ c.number _ (quiet _ refl h)) (close_away _ c.number h)
 got_away c (message.Cleaned sequence) h = told_by_away c false sequence _ (λ call. refl) h
 got_away c (message.Lookup number name) h = got_lookup_away c number name h
 
-received_away : {g : Setting} {s : State} (c : Option Connection) (m : Message) → Away g s → Away g (OwnEvents.received_on g c m s)
+received_away : {g : Setting} {s : State} (conn : ℕ) (c : Option Connection) (m : Message) → connection_at s conn ≡ c → Away g s → Away g (OwnEvents.received_on g c m s)
 unfolding Frames.receive
-received_away None m h = h
-received_away {s = s} (Some c) m h = if_away (is_none c.peer) (first_away c m h) (if_away _ (close_away _ c.number h) (got_away c m h))
+received_away conn None m at h = h
+received_away {s = s} conn (Some c) m at h = if_away (is_none c.peer) (first_away c m (subst (λ n. connection_at s n ≡ Some c) (sym (eqb-true c.number conn (found-is (λ (d : Connection). d.number == conn) s.connections c at))) at) h)
+    (if_away _ (close_away _ c.number h) (got_away c m h))
 
 -- ---- own events
 
@@ -517,14 +566,29 @@ lookup_away {g} {s = s} peer name e h = if_away (is_name name) (noted _ (Started
       fresh = record { peer = peer; asked = LooksUp (s.calls_made + 1) (s.tasks_made + 1) name; stage = state.Waits } ∷ [];
     }
 
-opened_away : {g : Setting} {s : State} (conn : ℕ) (dialled : Option Uuid) → Away g s → Away g (OwnEvents.on_opened g conn dialled s)
+opened_away : {g : Setting} {s : State} (conn : ℕ) (dialled : Option Uuid) → Refusals.was_asked s dialled ≡ true → Away g s → Away g (OwnEvents.on_opened g conn dialled s)
 unfolding OwnEvents.on_opened
-opened_away conn None h = send_away _ conn _ (quiet _ refl h)
-opened_away conn (Some peer) h = send_away _ conn _ (quiet _ refl h)
+opened_away {g} {s} conn None asked h = if_away (nat_le 2 g.version) row (say_hello_away 1 conn row)
+  where
+    row : Away g (OwnEvents.add_connection conn None s)
+    row = lined {s = s} _ _ s.dialling refl (all-more (Lines g) s.connections (record { number = conn; dialled = None; peer = None; version = 1; last = 0; sent = [] }) h.parts.lines tt) h.parts.dialling h
+opened_away {g} {s} conn (Some peer) asked h = say_hello_away _ conn row
+  where
+    row : Away g (OwnEvents.dialled_no_more (Some peer) (OwnEvents.add_connection conn (Some peer) s))
+    row = lined {s = s} _ _ _ refl (all-more (Lines g) s.connections (record { number = conn; dialled = Some peer; peer = None; version = 1; last = 0; sent = [] }) h.parts.lines (other-of s.dialling asked h.parts.dialling))
+        (all-filter (OtherPeer g) (λ p. not (bytes_eq peer p)) s.dialling h.parts.dialling) h
+      where
+        other-of : (ps : List Uuid) → list_any (bytes_eq peer) ps ≡ true → AllOf (OtherPeer g) ps → OtherPeer g peer
+        other-of [] e a = absurd (true≢false (sym e))
+        other-of (p ∷ ps) e a = pick (bytes_eq peer p) refl e (λ f. other-of ps f a.1)
+          where
+            pick : (b : Bool) → bytes_eq peer p ≡ b → b || list_any (bytes_eq peer) ps ≡ true → (list_any (bytes_eq peer) ps ≡ true → OtherPeer g peer) → OtherPeer g peer
+            pick true t f rest = subst (OtherPeer g) (sym (one-peer peer p t)) a.0
+            pick false t f rest = rest f
 
 refused_away : {g : Setting} {s : State} (peer : Uuid) → Away g s → Away g (OwnEvents.on_refused g peer s)
 unfolding OwnEvents.on_refused
-refused_away peer h = end_requests_away (Requests.waits_for peer) _ (quiet _ refl h)
+refused_away {g} {s} peer h = end_requests_away (Requests.waits_for peer) _ (lined {s = s} _ s.connections _ refl h.parts.lines (all-filter (OtherPeer g) (λ p. not (bytes_eq peer p)) s.dialling h.parts.dialling) h)
 
 -- ---- events
 
@@ -532,6 +596,7 @@ refused_away peer h = end_requests_away (Requests.waits_for peer) _ (quiet _ ref
 abbrev Asks : Setting → State → Event → Type 0
 Asks g s (Parked id k) = (t : Living) (target : Ref) (method : ℕ) (arguments : List Value) → ready_at s id ≡ Some t → stand (steps k t.task) ≡ AsksFor (Call target method arguments) → bytes_eq target.space g.id ≡ false
 Asks g s (Lookup peer name) = bytes_eq peer g.id ≡ false
+Asks g s (Opened conn dialled) = Refusals.was_asked s dialled ≡ true
 Asks g s _ = Unit {0}
 
 happen_away : {g : Setting} {s : State} (e : Event) → Asks g s e → Away g s → Away g (Space.happen g e s)
@@ -544,9 +609,9 @@ happen_away (Bind name value) o h = names_away _ h
 happen_away (Rebind name value) o h = names_away _ h
 happen_away (Unbind name) o h = names_away _ h
 happen_away {g} (Lookup peer name) o h = lookup_away {g = g} peer name o h
-happen_away (Opened conn dialled) o h = opened_away conn dialled h
+happen_away (Opened conn dialled) o h = opened_away conn dialled o h
 happen_away (Refused peer) o h = refused_away peer h
-happen_away {s = s} (Received conn m) o h = received_away (connection_at s conn) m h
+happen_away {s = s} (Received conn m) o h = received_away conn (connection_at s conn) m refl h
 happen_away (Closed conn) o h = end_connection_away _ conn h
 happen_away (ReadFailed conn) o h = end_connection_away _ conn h
 happen_away (Bad conn) o h = end_connection_away _ conn h
@@ -561,7 +626,7 @@ sent_away (Started task) h = h
 sent_away (Ended task outcome) h = h
 sent_away (Withdrawn ids) h = h
 sent_away (Denied why) h = h
-sent_away (Send conn m) h = quiet _ refl h
+sent_away (Send conn m) h = row_away conn (λ (c : Connection). record c { sent = m ∷ c.sent }) (λ c. refl) h
 sent_away (Dial peer) h = h
 sent_away (Close conn) h = h
 sent_away (Ready task) h = h
@@ -588,7 +653,7 @@ finish_event_away {g} {s} true h = record {
 }
   where
     unnoted : (t : State) → Away g t → Away g (record t { notes = [] })
-    unnoted t k = record { parts = record { leases = k.parts.leases; fresh = k.parts.fresh; notes = tt } }
+    unnoted t k = record { parts = record { leases = k.parts.leases; fresh = k.parts.fresh; notes = tt; lines = k.parts.lines; dialling = k.parts.dialling } }
 finish_event_away false h = record { state = h; outputs = tt }
 
 -- a call that is parked is of another space
@@ -617,7 +682,11 @@ asks g lent s (RootAck task) t = tt
 asks g lent s (Bind name value) t = tt
 asks g lent s (Rebind name value) t = tt
 asks g lent s (Unbind name) t = tt
-asks g lent s (Opened conn dialled) t = tt
+asks g lent s (Opened conn dialled) t = not-not (Refusals.was_asked s dialled) (or-none (is_open s conn) (not (Refusals.was_asked s dialled)) (first-of (is_open s conn || not (Refusals.was_asked s dialled)) Refusals.Strange [] t).0).1
+  where
+    not-not : (b : Bool) → not b ≡ false → b ≡ true
+    not-not true e = refl
+    not-not false e = absurd (true≢false e)
 asks g lent s (Refused peer) t = tt
 asks g lent s (Received conn m) t = tt
 asks g lent s (Closed conn) t = tt
@@ -634,7 +703,7 @@ on_away g lent s e t h = finish_event_away (Space.answers_outputs e) (happen_awa
 
 pub new-away : (g : Setting) → Away g opening
 unfolding opening
-new-away g = record { parts = record { leases = tt; fresh = tt; notes = tt } }
+new-away g = record { parts = record { leases = tt; fresh = tt; notes = tt; lines = tt; dialling = tt } }
 
 away-of : (g : Setting) (h : List Event) → IsTaken g h → Away g (Space.state_of g h)
 unfolding Space.state_of

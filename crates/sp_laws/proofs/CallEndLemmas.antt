@@ -218,6 +218,8 @@ view g before e number task t = record {
   Fails = IsFailure g e;
   Ends = λ asked reply. (is_ending e ≡ true) × ((n : ℕ) → ParkedFrames.has_number n asked ≡ true → MayEndWith g before e n reply);
   Starts = λ o n a. Unit {0};
+  Speaks = λ c version. Unit {0};
+  Fits = λ c ids. Unit {0};
   Keeps = λ l s. Waits l s × Goes g before e number task t l (event_parts s);
 }
 
@@ -247,6 +249,8 @@ ends_flow g before e number task t = record {
   gives = λ p value fuel asked is known eq has. (is, λ n also. subst (λ x. MayEndWith g before e x (GivesBack value fuel)) (same-number p.number n asked has also) (known value fuel eq));
   refuses = λ c n class is. tt;
   finds = λ c n name r is own. tt;
+  speaks = λ c version. tt;
+  fits = λ c ids. tt;
   quiet = λ l s u eq k. (W.quiet l s u (ap (λ (c : EventParts). record { calls_made = c.calls_made; tasks_made = c.tasks_made; tasks = c.tasks; requests = c.requests; fresh = c.fresh; results = c.results; connections = c.connections; parked = c.parked }) eq) k.0, subst (Goes g before e number task t l) (sym eq) k.1);
   says = λ l s output is so k. (W.quiet l s _ refl k.0, same _ refl refl refl refl k.1);
   sends = λ l s turn c m may held k. (W.quiet l s _ refl k.0, same _ refl refl refl refl k.1);

@@ -218,6 +218,8 @@ call_view g before e = record {
   Fails = λ class. (is_ending e ≡ true) × IsFailing g class;
   Ends = EndsWith g before e;
   Starts = StartsBy g before e;
+  Speaks = λ c version. Unit {0};
+  Fits = λ c ids. Unit {0};
   Keeps = λ l s. Waits l s × Goes g before e l (event_parts s);
 }
 
@@ -264,6 +266,8 @@ call_flow g before e = record {
   gives = λ p value fuel asked is known eq has. (is, result-ends g before p value fuel asked known eq has);
   refuses = λ c n class is. tt;
   finds = λ c n name r is own. tt;
+  speaks = λ c version. tt;
+  fits = λ c ids. tt;
   quiet = λ l s u eq k. (W.quiet l s u (ap (λ (c : EventParts). record { calls_made = c.calls_made; tasks_made = c.tasks_made; tasks = c.tasks; requests = c.requests; fresh = c.fresh; results = c.results; connections = c.connections; parked = c.parked }) eq) k.0, subst (Goes g before e l) (sym eq) k.1);
   says = λ l s output is so k. (W.quiet l s _ refl k.0, same _ refl refl refl refl refl k.1);
   sends = λ l s turn c m may held k. (W.quiet l s _ refl k.0, same _ refl refl refl refl refl k.1);

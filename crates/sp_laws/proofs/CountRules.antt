@@ -360,15 +360,21 @@ orphans-hold u r conn moment (k ∷ ks) =
     let a : result_holds u r (Endings.orphan conn moment k) ≡ result_holds u r k = ap (λ value. refs_times u r (references_in value)) (orphan-value conn moment k) in
     let b : total (result_holds u r) (map (Endings.orphan conn moment) ks) ≡ total (result_holds u r) ks = orphans-hold u r conn moment ks in omega arith
 
-end_connection_off : {g : Setting} {r : ForeignId} {n : ℕ} {s : State} (why : Asked → ClassId) (conn : ℕ) → Off g r 0 n s → Off g r 0 n (Endings.end_connection g why conn s)
-unfolding Endings.end_connection
-end_connection_off {g} {r} {n} {s = s} why conn h = some_off (connection_at s conn) _ h (λ c is. end_requests_off _ why
-    (each_off _ _ (λ t p k. let_go_off p t.parked (take_off p k)) (quiet _ refl without)))
+let_connection_go_off : {g : Setting} {r : ForeignId} {n : ℕ} {s : State} (conn : ℕ) → Off g r 0 n s → Off g r 0 n (Endings.let_connection_go conn s)
+let_connection_go_off {g} {r} {n} {s} conn h = each_off _ _ (λ t p k. let_go_off p t.parked (take_off p k)) (quiet _ refl without)
   where
     without : Off g r 0 n (record s { results = map (Endings.orphan conn s.moment) s.results })
     without =
         let e : total (result_holds g.id r) (map (Endings.orphan conn s.moment) s.results) ≡ total (result_holds g.id r) s.results = orphans-hold g.id r conn s.moment s.results in
         renumber (0 + 0) (n + 0) 0 n (omega arith) (results_off 0 0 (map (Endings.orphan conn s.moment) s.results) (omega arith) h)
+
+end_connection_off : {g : Setting} {r : ForeignId} {n : ℕ} {s : State} (why : Asked → ClassId) (conn : ℕ) → Off g r 0 n s → Off g r 0 n (Endings.end_connection g why conn s)
+unfolding Endings.end_connection
+end_connection_off {s = s} why conn h = some_off (connection_at s conn) _ h (λ c is. end_requests_off _ why (let_connection_go_off conn h))
+
+redial_off : {g : Setting} {r : ForeignId} {n : ℕ} {s : State} (peer : Uuid) (conn : ℕ) → Off g r 0 n s → Off g r 0 n (Endings.redial peer conn s)
+unfolding Endings.redial
+redial_off {s = s} peer conn h = dial_off peer (quiet _ refl (let_connection_go_off {s = Endings.note_peer peer s} conn (quiet _ refl h)))
 
 close_off : {g : Setting} {r : ForeignId} {n : ℕ} {s : State} (class : ClassId) (conn : ℕ) → Off g r 0 n s → Off g r 0 n (Endings.close g class conn s)
 unfolding Endings.close
@@ -376,9 +382,13 @@ close_off class conn h = quiet _ refl (end_connection_off _ conn h)
 
 -- ---- frames that come
 
+say_hello_off : {g : Setting} {r : ForeignId} {n : ℕ} {s : State} (version conn : ℕ) → Off g r 0 n s → Off g r 0 n (Frames.say_hello g version conn s)
+say_hello_off {g} version conn h = quiet _ refl (send_off Rattle.sp_rules.specs.Events.Hellos conn (message.Hello version g.id g.digest) h)
+
 first_off : {g : Setting} {r : ForeignId} {n : ℕ} {s : State} (c : Connection) (m : Message) → Off g r 0 n s → Off g r 0 n (Frames.first_frame g c m s)
 unfolding Frames.first_frame
-first_off {g} {r} {n} {s} c (message.Hello version space digest) h = some_off c.dialled _ (if_off _ known (close_off _ c.number h)) (λ peer is. if_off _ (flush_off peer c.number known) (close_off _ c.number h))
+first_off {g} {r} {n} {s} c (message.Hello version space digest) h = some_off c.dialled _ (if_off _ (if_off (nat_le 2 g.version) (say_hello_off _ c.number known) known) (close_off _ c.number h))
+    (λ peer is. if_off _ (if_off (version == c.version) (flush_off peer c.number known) (if_off (nat_le 2 c.version && version == 1) (redial_off peer c.number h) (close_off _ c.number h))) (close_off _ c.number h))
   where
     known : Off g r 0 n (Frames.greeted space c.number s)
     known = quiet _ refl h
@@ -446,9 +456,9 @@ got_off c (message.Returned number fuel value) h = answered_by_off c number _ (�
 got_off {g} c (message.Threw number class) h = answered_by_off c number _ (λ asked. ends_as_off c number (λ a. Frames.thrown_reply g class) asked h) h
 got_off {g} c (message.Spent number) h = answered_by_off c number _ (λ asked. ends_as_off c number (Frames.spent_reply g) asked h) h
 got_off c (message.Ack number) h = got_ack_off c number h
-got_off c (message.Dirty sequence period objects) h = send_off _ c.number _ (quiet _ refl h)
+got_off c (message.Dirty sequence period objects) h = if_off (Frames.fit_frame c objects) (send_off _ c.number _ (quiet _ refl h)) (close_off _ c.number h)
 got_off c (message.Lease sequence period) h = told_by_off c true sequence (λ call. lease_events.DirtyAnswered call period) (λ call. (refl, refl)) h
-got_off c (message.Clean sequence strong objects) h = send_off _ c.number _ (quiet _ refl h)
+got_off c (message.Clean sequence strong objects) h = if_off (Frames.fit_frame c objects) (send_off _ c.number _ (quiet _ refl h)) (close_off _ c.number h)
 got_off c (message.Cleaned sequence) h = told_by_off c false sequence lease_events.CleanAnswered (λ call. (refl, refl)) h
 got_off c (message.Lookup number name) h = got_lookup_off c number name h
 
@@ -493,8 +503,8 @@ lookup_off peer name h = if_off (is_name name) (quiet _ refl h) (quiet _ refl h)
 
 opened_off : {g : Setting} {r : ForeignId} {n : ℕ} {s : State} (conn : ℕ) (dialled : Option Uuid) → Off g r 0 n s → Off g r 0 n (OwnEvents.on_opened g conn dialled s)
 unfolding OwnEvents.on_opened
-opened_off conn None h = send_off _ conn _ (quiet _ refl h)
-opened_off conn (Some peer) h = send_off _ conn _ (quiet _ refl h)
+opened_off {g} conn None h = if_off (nat_le 2 g.version) (quiet _ refl h) (say_hello_off 1 conn (quiet _ refl h))
+opened_off conn (Some peer) h = say_hello_off _ conn (quiet _ refl h)
 
 refused_off : {g : Setting} {r : ForeignId} {n : ℕ} {s : State} (peer : Uuid) → Off g r 0 n s → Off g r 0 n (OwnEvents.on_refused g peer s)
 unfolding OwnEvents.on_refused

@@ -32,6 +32,7 @@ use Rattle.sp_laws.proofs.OnceRules.{connections_are_opened_once}
 use Rattle.sp_laws.specs.Directions.{opens_end, was_opened, HasOpened, GoesItsWay, CameFromPeer, FramesGoTheirWay, HasDirections, SpacesHaveDirections}
 use Rattle.sp_laws.specs.CallSent.{MaySend, is_send}
 use Rattle.sp_laws.proofs.EventRules.{View, Flows, Begins, EventParts, event_parts, IsFrom, on_flow, happen_settles, CanSend}
+use Rattle.sp_laws.proofs.FrameFlows.{AnswersHello}
 
 -- ---- what is kept
 
@@ -87,6 +88,8 @@ view g e h Is = record {
   Fails = λ c. Unit {0};
   Ends = λ a r. Unit {0};
   Starts = λ o n a. Unit {0};
+  Speaks = λ c version. Unit {0};
+  Fits = λ c ids. Unit {0};
   Keeps = λ l s. Directed (e ∷ h) l (event_parts s);
 }
 
@@ -105,22 +108,26 @@ from-is g e h Is OfRoot a = tt
 from-is g e h Is (OfCall conn number) a = a
 
 -- an end that is opened was opened
-opens-now : (h : List Event) (conn : ℕ) (dialled : Option Uuid) → HasOpened (Opened conn dialled ∷ h) conn (is_some dialled)
+pub opens-now : (h : List Event) (conn : ℕ) (dialled : Option Uuid) → HasOpened (Opened conn dialled ∷ h) conn (is_some dialled)
 opens-now h conn None = or-left (conn == conn && true) _ (ap (λ b. b && true) (eq-eqb conn conn refl))
 opens-now h conn (Some peer) = or-left (conn == conn && true) _ (ap (λ b. b && true) (eq-eqb conn conn refl))
 
 -- what is known of a frame says its direction
 can-may : (g : Setting) (e : Event) (h : List Event) (Is : ℕ → Message → Type 0) (conn : ℕ) (m : Message) → CanSend (view g e h Is) conn m → MaySend (HasOpened (e ∷ h)) conn m
-can-may g e h Is conn (message.Hello version space digest) a = says-hello a.0 a.1
+can-may g e h Is conn (message.Hello version space digest) a = by a.1
   where
     says-hello : (dialled : Option Uuid) → e ≡ Opened conn dialled → HasOpened (e ∷ h) conn true ⊎ HasOpened (e ∷ h) conn false
     says-hello None is = inr (subst (λ d. HasOpened (d ∷ h) conn false) (sym is) (opens-now h conn None))
     says-hello (Some peer) is = inl (subst (λ d. HasOpened (d ∷ h) conn true) (sym is) (opens-now h conn (Some peer)))
+
+    by : ((dialled : Option Uuid) × (e ≡ Opened conn dialled)) ⊎ AnswersHello g e (HasOpened (e ∷ h)) conn → HasOpened (e ∷ h) conn true ⊎ HasOpened (e ∷ h) conn false
+    by (inr b) = inr b.way
+    by (inl b) = says-hello b.0 b.1
 can-may g e h Is conn (message.Call number object method fuel arguments) a = absurd a
 can-may g e h Is conn (message.Lookup number name) a = absurd a
 can-may g e h Is conn (message.Ack number) a = a
-can-may g e h Is conn (message.Dirty sequence period objects) a = a
-can-may g e h Is conn (message.Clean sequence strong objects) a = a
+can-may g e h Is conn (message.Dirty sequence period objects) a = a.0
+can-may g e h Is conn (message.Clean sequence strong objects) a = a.0
 can-may g e h Is conn (message.Returned number fuel value) a = a.0
 can-may g e h Is conn (message.Threw number class) a = a.0
 can-may g e h Is conn (message.Spent number) a = a.0
@@ -190,6 +197,8 @@ directed_flow g e h Is refuses finds = record {
   gives = λ p value fuel asked is a b c. tt;
   refuses = refuses;
   finds = finds;
+  speaks = λ c version. tt;
+  fits = λ c ids. tt;
   quiet = λ l s t eq k. subst (Directed (e ∷ h) l) (sym eq) k;
   says = λ l s output is so k. notes-more s (Says output) (said (e ∷ h) output is) k;
   sends = λ l s turn c m may held k. notes-more s (Sends turn c m) (can-may g e h Is c m may) k;
@@ -244,7 +253,7 @@ Finishes g s e Is = (id k : ℕ) (t : Living) (outcome : Outcome) (conn number :
 
 pub directed-begin : (g : Setting) (s : State) (e : Event) (h : List Event) (Is : ℕ → Message → Type 0) → Finishes g s e Is → Begins (view g e h Is) s
 directed-begin g s e h Is finished = record {
-  opens = λ c dialled is k. rows-are s _ (all-more (Row (e ∷ h)) s.connections (record { number = c; dialled = dialled; peer = None; last = 0; sent = [] }) k.rows (subst (λ d. HasOpened (d ∷ h) c (is_some dialled)) (sym is) (opens-now h c dialled))) k;
+  opens = λ c dialled is k. rows-are s _ (all-more (Row (e ∷ h)) s.connections (record { number = c; dialled = dialled; peer = None; version = 1; last = 0; sent = [] }) k.rows (subst (λ d. HasOpened (d ∷ h) c (is_some dialled)) (sym is) (opens-now h c dialled))) k;
   parks = λ id n t target method arguments is ready stands k. record { rows = k.rows; frames = k.frames; tasks = set-tasks (e ∷ h) id (LivingTasks.waiting n) (λ u. refl) s.tasks k.tasks; requests = k.requests; fresh = (tt, tt); owed = k.owed; notes = k.notes };
   looks = λ peer name is k. record { rows = k.rows; frames = k.frames; tasks = k.tasks; requests = k.requests; fresh = (tt, tt); owed = k.owed; notes = k.notes };
   roots = λ method arguments fuel is. tt;
@@ -351,7 +360,7 @@ end-opened conn end (e ∷ h) o = by (opens_end conn end e) refl o (end-opened c
     by true f g rest = or-left (opens conn e) (opened conn h) (opens-it e end f)
     by false f g rest = or-right (opens conn e) (opened conn h) (rest g)
 
-one-end : (conn : ℕ) (h : List Event) → OpensOnce h → HasOpened h conn true → HasOpened h conn false → ⊥
+pub one-end : (conn : ℕ) (h : List Event) → OpensOnce h → HasOpened h conn true → HasOpened h conn false → ⊥
 one-end conn [] once a b = true≢false (sym a)
 one-end conn (e ∷ h) once a b = by (opens_end conn true e) refl (opens_end conn false e) refl a b (one-end conn h once.1)
   where

@@ -1,6 +1,7 @@
 -- What is asked of peers, what peers ask and what is sent, as the rules of a space move it in one event, for properties that ask neither
 -- whether a connection is open nor whether a Hello has come there. If the few moves keep such a property, an event keeps it; each move says
 -- what is known as it is made.
+use mathlib.Core.Path.{ap}
 use Rattle.std.specs.Prelude.{◌≡◌, refl, ℕ, ◌+◌, ◌==◌, not, nat_le, is_some, Bool, true, false, List, [], ◌∷◌, ◌++◌, Option, None, Some, filter, find, map}
 use Rattle.std.specs.List.{list_any}
 use Rattle.space_ids.specs.declared.ids.ClassId.{ClassId}
@@ -34,6 +35,7 @@ use Rattle.sp_laws.proofs.FlowRules.{Owed, Removed, Inbound, removed, of_origin,
 use Rattle.sp_laws.specs.Sent.{is_send, IsRefusal}
 use Rattle.sp_laws.proofs.FrameFlows as frame
 use Rattle.sp_laws.proofs.FrameEvents as events
+use Rattle.sp_laws.proofs.FrameFlows.{FrameParts}
 pub use Rattle.sp_laws.proofs.FrameFlows.{EventParts, event_parts, View, IsFrom, CanSend, IsKeptIn, IsHeldFor, IsReleased, IsSaid, is_finish, is_ending, is_storing, ending-goes, is_unreached, is_unwritten, out}
 pub use Rattle.sp_laws.proofs.FrameEvents.{asked-out}
 
@@ -52,6 +54,8 @@ pub record Flows (V : View) : Type 0 where
   pub gives : (p : ParkedFrame) (value : Option Value) (fuel : ℕ) (asked : Asked) → is_ending V.event ≡ true → V.Known p → p.frame ≡ ReturnedFrame value fuel → ParkedFrames.has_number p.number asked ≡ true → V.Ends asked (GivesBack value fuel)
   pub refuses : (conn number : ℕ) (class : ClassId) → IsRefusal V.setting V.event conn number class → V.Answers conn (message.Threw number class)
   pub finds : (conn number : ℕ) (name : List ℕ) (r : Ref) → V.event ≡ Received conn (message.Lookup number name) → r.space ≡ V.setting.id → V.Answers conn (message.Returned number 0 (Some (values.Ref r)))
+  pub speaks : (conn version : ℕ) → V.Speaks conn version
+  pub fits : (conn : ℕ) (ids : List ObjId) → V.Fits conn ids
   -- outputs
   pub quiet : (l : List Owed) (s t : State) → event_parts t ≡ event_parts s → V.Keeps l s → V.Keeps l t
   pub says : (l : List Owed) (s : State) (output : Output) → is_send output ≡ false → IsSaid V output → V.Keeps l s → V.Keeps l (say output s)
@@ -143,7 +147,9 @@ flows {V} F = record {
   gives = F.gives;
   refuses = F.refuses;
   finds = F.finds;
-  quiet = F.quiet;
+  speaks = λ l s conn version is k. F.speaks conn version;
+  fits = λ l s conn ids few k. F.fits conn ids;
+  quiet = λ l s t eq k. F.quiet l s t (ap (λ (p : FrameParts). p.parts) eq) k;
   says = λ l s output is so k. F.says l s output is (is-said V s output so) k;
   sends = λ l s turn conn m may there held k. F.sends l s turn conn m may held k;
   clears = F.clears;
@@ -169,6 +175,8 @@ flows {V} F = record {
   results_go = F.results_go;
   falls = F.falls;
   sent = λ l s conn m k. F.row l s conn (λ (c : Connection). record c { sent = m ∷ c.sent }) (λ c. refl) (λ c. refl) (λ c. refl) k;
+  versions = λ l s conn version speaks k. F.row l s conn (λ (c : Connection). record c { version = version }) (λ c. refl) (λ c. refl) (λ c. refl) k;
+  notes_peer = λ l s conn c peer space digest same is higher k. F.quiet l s (Endings.note_peer peer s) refl k;
   counts = F.counts;
   parks_call = F.parks_call;
   parks_result = F.parks_result;

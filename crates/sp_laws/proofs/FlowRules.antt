@@ -353,9 +353,16 @@ end_requests_flow {P = P} F {l} {s} is why h =
     (each_removed F _ (filter (λ (q : Request). not (Endings.is_group q.asked)) (filter is s.requests)) (λ m t q k. end_asked_flow F (why q.asked) q.asked k)
     (F.sorts l _ (λ (q : Request). Endings.is_group q.asked) (filter is s.requests) (F.removes l s is h)))
 
+pub let_connection_go_flow : {g : Setting} {P : List Owed → State → Type 0} (F : Flows g P) {l : List Owed} {s : State} (conn : ℕ) → P l s → P l (Endings.let_connection_go conn s)
+let_connection_go_flow F {l = l} {s} conn h = each_flow F _ _ (λ t p k. let_go_flow F p t.parked (F.takes l t p k)) (F.closes l s conn h)
+
 end_connection_flow : {g : Setting} {P : List Owed → State → Type 0} (F : Flows g P) {l : List Owed} {s : State} (why : Asked → ClassId) (conn : ℕ) → P l s → P l (Endings.end_connection g why conn s)
 unfolding Endings.end_connection
-end_connection_flow {P = P} F {l} {s} why conn h = some_flow F (connection_at s conn) _ h (λ c is. end_requests_flow F _ why (each_flow F _ _ (λ t p k. let_go_flow F p t.parked (F.takes l t p k)) (F.closes l s conn h)))
+end_connection_flow F {l} {s} why conn h = some_flow F (connection_at s conn) _ h (λ c is. end_requests_flow F _ why (let_connection_go_flow F {l = l} conn h))
+
+redial_flow : {g : Setting} {P : List Owed → State → Type 0} (F : Flows g P) {l : List Owed} {s : State} (peer : Uuid) (conn : ℕ) → P l s → P l (Endings.redial peer conn s)
+unfolding Endings.redial
+redial_flow F {l} {s} peer conn h = dial_flow F peer (F.quiet l _ _ refl (let_connection_go_flow F {l = l} {s = Endings.note_peer peer s} conn (F.quiet l s _ refl h)))
 
 close_flow : {g : Setting} {P : List Owed → State → Type 0} (F : Flows g P) {l : List Owed} {s : State} (class : ClassId) (conn : ℕ) → P l s → P l (Endings.close g class conn s)
 unfolding Endings.close
@@ -363,9 +370,14 @@ close_flow F {l} class conn h = F.quiet l _ _ refl (end_connection_flow F _ conn
 
 -- ---- frames that come
 
+say_hello_flow : {g : Setting} {P : List Owed → State → Type 0} (F : Flows g P) {l : List Owed} {s : State} (version conn : ℕ) → P l s → P l (Frames.say_hello g version conn s)
+say_hello_flow {g} F {l} {s} version conn h =
+    F.row l (send Rattle.sp_rules.specs.Events.Hellos conn (message.Hello version g.id g.digest) s) conn (λ (d : Connection). record d { version = version }) (λ d. refl) (λ d. refl) (λ d. refl) (send_flow F Rattle.sp_rules.specs.Events.Hellos conn (message.Hello version g.id g.digest) h)
+
 first_flow : {g : Setting} {P : List Owed → State → Type 0} (F : Flows g P) {l : List Owed} {s : State} (c : Connection) (m : Message) → P l s → P l (Frames.first_frame g c m s)
 unfolding Frames.first_frame
-first_flow {g} {P} F {l} {s} c (message.Hello version space digest) h = some_flow F c.dialled _ (if_flow F _ known (close_flow F _ c.number h)) (λ peer is. if_flow F _ (flush_flow F peer c.number known) (close_flow F _ c.number h))
+first_flow {g} {P} F {l} {s} c (message.Hello version space digest) h = some_flow F c.dialled _ (if_flow F _ (if_flow F (nat_le 2 g.version) (say_hello_flow F _ c.number known) known) (close_flow F _ c.number h))
+    (λ peer is. if_flow F _ (if_flow F (version == c.version) (flush_flow F peer c.number known) (if_flow F (nat_le 2 c.version && version == 1) (redial_flow F peer c.number h) (close_flow F _ c.number h))) (close_flow F _ c.number h))
   where
     known : P l (Frames.greeted space c.number s)
     known = F.row l s c.number (λ (d : Connection). record d { peer = Some space }) (λ d. refl) (λ d. refl) (λ d. refl) h
@@ -450,9 +462,9 @@ got_flow F c (message.Returned number fuel value) is h = answered_by_flow F c nu
 got_flow {g} F c (message.Threw number class) is h = answered_by_flow F c number _ (λ q asked. ends_as_flow F c number (λ a. Frames.thrown_reply g class) q asked h) h
 got_flow {g} F c (message.Spent number) is h = answered_by_flow F c number _ (λ q asked. ends_as_flow F c number (Frames.spent_reply g) q asked h) h
 got_flow F c (message.Ack number) is h = got_ack_flow F c number h
-got_flow F {l} {s} c (message.Dirty sequence period objects) is h = send_flow F _ c.number _ (F.quiet l s _ refl h)
+got_flow F {l} {s} c (message.Dirty sequence period objects) is h = if_flow F (Frames.fit_frame c objects) (send_flow F _ c.number _ (F.quiet l s _ refl h)) (close_flow F _ c.number h)
 got_flow F c (message.Lease sequence period) is h = told_by_flow F c true sequence (λ call. lease_events.DirtyAnswered call period) h
-got_flow F {l} {s} c (message.Clean sequence strong objects) is h = send_flow F _ c.number _ (F.quiet l s _ refl h)
+got_flow F {l} {s} c (message.Clean sequence strong objects) is h = if_flow F (Frames.fit_frame c objects) (send_flow F _ c.number _ (F.quiet l s _ refl h)) (close_flow F _ c.number h)
 got_flow F c (message.Cleaned sequence) is h = told_by_flow F c false sequence lease_events.CleanAnswered h
 got_flow F c (message.Lookup number name) is h = got_lookup_flow F c number name is h
 
@@ -487,8 +499,8 @@ lookup_flow {P = P} F {s} peer name B h = if_flow F (is_name name) (F.quiet [] _
 
 opened_flow : {g : Setting} {P : List Owed → State → Type 0} (F : Flows g P) {s : State} (conn : ℕ) (dialled : Option Uuid) → Begins g P s (Opened conn dialled) → P [] s → P [] (OwnEvents.on_opened g conn dialled s)
 unfolding OwnEvents.on_opened
-opened_flow F conn None B h = send_flow F _ conn _ (B.opens conn None refl h)
-opened_flow F conn (Some peer) B h = send_flow F _ conn _ (F.quiet [] _ _ refl (B.opens conn (Some peer) refl h))
+opened_flow {g} F conn None B h = if_flow F (nat_le 2 g.version) (B.opens conn None refl h) (say_hello_flow F {l = []} 1 conn (B.opens conn None refl h))
+opened_flow F {s} conn (Some peer) B h = say_hello_flow F {l = []} {s = OwnEvents.dialled_no_more (Some peer) (OwnEvents.add_connection conn (Some peer) s)} _ conn (F.quiet [] _ _ refl (B.opens conn (Some peer) refl h))
 
 refused_flow : {g : Setting} {P : List Owed → State → Type 0} (F : Flows g P) {l : List Owed} {s : State} (peer : Uuid) → P l s → P l (OwnEvents.on_refused g peer s)
 unfolding OwnEvents.on_refused

@@ -4,7 +4,7 @@ use Rattle.std.proofs.Common.{inl, inr}
 use Rattle.std.proofs.lemmas.Bool.{true≢false, eqb-true}
 use Rattle.std.specs.List.{list_any}
 use Rattle.std.specs.Str.{bytes_eq}
-use Rattle.std.specs.Prelude.{◌≡◌, refl, ℕ, ◌==◌, ◌&&◌, ◌||◌, not, nat_le, nat_lt, is_some, is_none, Bool, true, false, List, [], ◌∷◌, Option, None, Some, Result, Ok, Err, find, fold, map, if◌then◌else◌}
+use Rattle.std.specs.Prelude.{◌≡◌, ◌⊎◌, refl, ℕ, ◌==◌, ◌&&◌, ◌||◌, not, min, nat_le, nat_lt, is_some, is_none, Bool, true, false, List, [], ◌∷◌, Option, None, Some, Result, Ok, Err, find, fold, map, if◌then◌else◌}
 use Rattle.dgc_client.specs.History as lease_events
 use Rattle.dgc_client.specs.Table as client
 use Rattle.space_ids.specs.declared.ids.ForeignId.{ForeignId}
@@ -21,7 +21,7 @@ use Rattle.space_ids.specs.declared.value.Value.{Value}
 use Rattle.sp_rules.specs.Behaviours.{Reply, Throws}
 use Rattle.sp_rules.specs.Classes.{fit_kinds}
 use Rattle.sp_rules.specs.Endings
-use Rattle.sp_rules.specs.Events.{Started, Ended, Replies, Acks, Event, Moment, Sweep, Root, RootAck, Bind, Rebind, Unbind, Lookup, Opened, Refused, Received, Closed, ReadFailed, Bad, WriteFailed, Committed, Parked, GivenBack, Finished, Output, Withdrawn, Denied, Send, Dial, Close, Ready}
+use Rattle.sp_rules.specs.Events.{Started, Ended, Hellos, Replies, Acks, Event, Moment, Sweep, Root, RootAck, Bind, Rebind, Unbind, Lookup, Opened, Refused, Received, Closed, ReadFailed, Bad, WriteFailed, Committed, Parked, GivenBack, Finished, Output, Withdrawn, Denied, Send, Dial, Close, Ready}
 use Rattle.sp_rules.specs.Frames
 use Rattle.sp_rules.specs.Holders
 use Rattle.sp_rules.specs.Holders.{hold_ids, drop_ids}
@@ -37,10 +37,16 @@ use Rattle.sp_rules.specs.State.{State, Object, Living, Origin, OfRoot, OfCall, 
 use Rattle.sp_rules.proofs.AllLemmas.{found-is, all-found}
 use Rattle.sp_rules.proofs.OwnLemmas.{some-same, and-left}
 use Rattle.sp_laws.proofs.FlowRules.{Owed, Removed, Inbound}
-use Rattle.sp_laws.proofs.FrameFlows.{HasComeOn, View, IsReleased, is_finish, is_ending, is_storing, is_unreached, is_unwritten, ending-apart, Flows, IsWhoWasDialled, Begins, if_flow, some_flow, each_flow, send_flow, drop_flow}
-use Rattle.sp_laws.proofs.FrameSteps.{flush_flow, settle_flow, add_task_flow, keep_flow, keep-held, reply_to_flow, commit_flow, give_back_flow, park_flow, finish_flow, both-right, go_all_flow, park_call_flow, park_result_flow, end_requests_flow, end_connection_flow, close_flow, refused}
+use Rattle.sp_laws.proofs.FrameFlows.{HasComeOn, IsVersionOf, AnswersHello, View, IsReleased, is_finish, is_ending, is_storing, is_unreached, is_unwritten, ending-apart, Flows, IsWhoWasDialled, Begins, if_flow, some_flow, each_flow, send_flow, drop_flow}
+use Rattle.sp_laws.proofs.FrameSteps.{flush_flow, settle_flow, add_task_flow, keep_flow, keep-held, reply_to_flow, commit_flow, give_back_flow, park_flow, finish_flow, both-right, go_all_flow, park_call_flow, park_result_flow, end_requests_flow, end_connection_flow, close_flow, redial_flow, refused}
 
 -- ---- frames that come
+
+-- the space says Hello, if it may
+pub say_hello_flow : {V : View} (F : Flows V) {l : List Owed} {s : State} (version conn : ℕ) → IsVersionOf V s conn version → ((dialled : Option Uuid) × (V.event ≡ Opened conn dialled)) ⊎ AnswersHello V.setting V.event V.Dialled conn → V.Keeps l s → V.Keeps l (Frames.say_hello V.setting version conn s)
+say_hello_flow {V} F {l} {s} version conn is may h =
+    let speaks : V.Speaks conn version = F.speaks l s conn version is h in
+    F.versions l (send Hellos conn (message.Hello version V.setting.id V.setting.digest) s) conn version speaks (send_flow F Hellos conn (message.Hello version V.setting.id V.setting.digest) (speaks, may) tt h)
 
 -- what is known as a first frame comes: it is the event's, and the connection's row has no peer yet
 pub first_flow : {V : View} (F : Flows V) {s : State} (c : Connection) (m : Message) → V.event ≡ Received c.number m → Begins V s → connection_at s c.number ≡ Some c → is_none c.peer ≡ true → V.Keeps [] s → V.Keeps [] (Frames.first_frame V.setting c m s)
@@ -53,19 +59,40 @@ first_flow {V} F {s} c (message.Hello version space digest) same B row none h = 
     welcome : (o : Option Uuid) → c.dialled ≡ o → bytes_eq digest V.setting.digest ≡ true → IsWhoWasDialled o space → V.Keeps [] (Frames.greeted space c.number s) × V.Dialled c.number (is_some c.dialled)
     welcome o e d who = B.greets c version space digest same row none d (subst (λ x. IsWhoWasDialled x space) (sym e) who) h
 
-    by : (o : Option Uuid) → c.dialled ≡ o → V.Keeps [] (with_some o (if bytes_eq digest V.setting.digest then Frames.greeted space c.number s else Endings.close V.setting V.setting.classes.unmarshal c.number s)
-        (λ peer. if bytes_eq digest V.setting.digest && bytes_eq space peer then Requests.flush_waiting peer c.number (Frames.greeted space c.number s) else Endings.close V.setting V.setting.classes.connect c.number s))
-    by None e = pick (bytes_eq digest V.setting.digest) refl
+    by : (o : Option Uuid) → c.dialled ≡ o
+        → V.Keeps [] (with_some o (if bytes_eq digest V.setting.digest && nat_le version V.setting.version then Frames.answer_hello V.setting version c.number (Frames.greeted space c.number s) else Endings.close V.setting V.setting.classes.unmarshal c.number s)
+        (λ peer. if bytes_eq digest V.setting.digest && bytes_eq space peer then Frames.answered_hello V.setting c peer version space s else Endings.close V.setting V.setting.classes.connect c.number s))
+    by None e = pick (bytes_eq digest V.setting.digest && nat_le version V.setting.version) refl
       where
-        pick : (b : Bool) → bytes_eq digest V.setting.digest ≡ b → V.Keeps [] (if b then Frames.greeted space c.number s else Endings.close V.setting V.setting.classes.unmarshal c.number s)
-        pick true d = (welcome None e d tt).0
+        answer : V.Keeps [] (Frames.greeted space c.number s) × V.Dialled c.number (is_some c.dialled) → V.Keeps [] (Frames.answer_hello V.setting version c.number (Frames.greeted space c.number s))
+        answer x = either (nat_le 2 V.setting.version) refl
+          where
+            either : (b : Bool) → nat_le 2 V.setting.version ≡ b
+                → V.Keeps [] (if b then Frames.say_hello V.setting (min version V.setting.version) c.number (Frames.greeted space c.number s) else Frames.greeted space c.number s)
+            either true late =
+                let a : AnswersHello V.setting V.event V.Dialled c.number = record { version = version; space = space; digest = digest; came = same; way = subst (V.Dialled c.number) (ap is_some e) x.1; late = late } in
+                say_hello_flow F (min version V.setting.version) c.number (inr (inr (a, refl))) (inr a) x.0
+            either false late = x.0
+
+        pick : (b : Bool) → bytes_eq digest V.setting.digest && nat_le version V.setting.version ≡ b
+            → V.Keeps [] (if b then Frames.answer_hello V.setting version c.number (Frames.greeted space c.number s) else Endings.close V.setting V.setting.classes.unmarshal c.number s)
+        pick true d = answer (welcome None e (and-left (bytes_eq digest V.setting.digest) (nat_le version V.setting.version) d) tt)
         pick false d = close_flow F _ c.number (message.Hello version space digest, same) may may h
     by (Some peer) e = pick (bytes_eq digest V.setting.digest && bytes_eq space peer) refl
       where
-        pick : (b : Bool) → bytes_eq digest V.setting.digest && bytes_eq space peer ≡ b → V.Keeps [] (if b then Requests.flush_waiting peer c.number (Frames.greeted space c.number s) else Endings.close V.setting V.setting.classes.connect c.number s)
-        pick true d =
+        lower : (b : Bool) → nat_le 2 c.version && version == 1 ≡ b → V.Keeps [] (if b then Endings.redial peer c.number s else Endings.close V.setting V.setting.classes.unmarshal c.number s)
+        lower true d = redial_flow F peer c.number c space digest
+            (subst (λ n. V.event ≡ Received c.number (message.Hello n space digest)) (eqb-true version 1 (both-right (nat_le 2 c.version) (version == 1) d)) same) (and-left (nat_le 2 c.version) (version == 1) d) may row h
+        lower false d = close_flow F _ c.number (message.Hello version space digest, same) may may h
+
+        answered : bytes_eq digest V.setting.digest && bytes_eq space peer ≡ true → V.Keeps [] (Frames.answered_hello V.setting c peer version space s)
+        answered d =
             let x = welcome (Some peer) e (and-left (bytes_eq digest V.setting.digest) (bytes_eq space peer) d) (both-right (bytes_eq digest V.setting.digest) (bytes_eq space peer) d) in
-            flush_flow F peer c.number (subst (V.Dialled c.number) (ap is_some e) x.1) x.0
+            if_flow F (version == c.version) (flush_flow F peer c.number (subst (V.Dialled c.number) (ap is_some e) x.1) x.0)
+            (lower (nat_le 2 c.version && version == 1) refl)
+
+        pick : (b : Bool) → bytes_eq digest V.setting.digest && bytes_eq space peer ≡ b → V.Keeps [] (if b then Frames.answered_hello V.setting c peer version space s else Endings.close V.setting V.setting.classes.connect c.number s)
+        pick true d = answered d
         pick false d = close_flow F _ c.number (message.Hello version space digest, same) may (B.connect (ap is_unreached same)) h
 first_flow F c m same B row none h = close_flow F _ c.number (m, same) (B.unmarshal (ap is_ending same)) (B.unmarshal (ap is_ending same)) h
 
@@ -221,9 +248,9 @@ got_flow {V} F {s} c m same B is hello way h = by m same way
     by (message.Threw number class) e w = answered_by_flow F c number _ (message.Threw number class, e) (λ q asked. ends_as_flow F c number (λ a. Frames.thrown_reply V.setting class) q (B.threw c.number number class e q asked) asked h) may h
     by (message.Spent number) e w = answered_by_flow F c number _ (message.Spent number, e) (λ q asked. ends_as_flow F c number (Frames.spent_reply V.setting) q (B.spent c.number number e q asked) asked h) may h
     by (message.Ack number) e w = got_ack_flow F c number e may h
-    by (message.Dirty sequence period objects) e w = send_flow F _ c.number _ (asks w) tt (F.quiet [] s _ refl h)
+    by (message.Dirty sequence period objects) e w = if_flow F (Frames.fit_frame c objects) (send_flow F _ c.number _ (asks w) tt (F.quiet [] s _ refl h)) (close_flow F _ c.number (message.Dirty sequence period objects, e) may may h)
     by (message.Lease sequence period) e w = told_by_flow F c true sequence (λ call. lease_events.DirtyAnswered call period) (message.Lease sequence period, e) going may h
-    by (message.Clean sequence strong objects) e w = send_flow F _ c.number _ (asks w) tt (F.quiet [] s _ refl h)
+    by (message.Clean sequence strong objects) e w = if_flow F (Frames.fit_frame c objects) (send_flow F _ c.number _ (asks w) tt (F.quiet [] s _ refl h)) (close_flow F _ c.number (message.Clean sequence strong objects, e) may may h)
     by (message.Cleaned sequence) e w = told_by_flow F c false sequence lease_events.CleanAnswered (message.Cleaned sequence, e) going may h
     by (message.Lookup number name) e w = got_lookup_flow F c number name e may (asks w) is h
 
@@ -278,8 +305,13 @@ lookup_flow {V} F {s} peer name same B h = if_flow F (is_name name) (F.says [] _
 
 pub opened_flow : {V : View} (F : Flows V) {s : State} (conn : ℕ) (dialled : Option Uuid) → V.event ≡ Opened conn dialled → Begins V s → V.Keeps [] s → V.Keeps [] (OwnEvents.on_opened V.setting conn dialled s)
 unfolding OwnEvents.on_opened
-opened_flow {V} F conn None same B h = send_flow F _ conn (message.Hello 1 V.setting.id V.setting.digest) (None, same) tt (B.opens conn None same h)
-opened_flow {V} F conn (Some peer) same B h = send_flow F _ conn (message.Hello 1 V.setting.id V.setting.digest) (Some peer, same) tt (F.quiet [] _ _ refl (B.opens conn (Some peer) same h))
+opened_flow {V} F {s} conn None same B h = by (nat_le 2 V.setting.version) refl
+  where
+    by : (b : Bool) → nat_le 2 V.setting.version ≡ b → V.Keeps [] (if b then OwnEvents.add_connection conn None s else Frames.say_hello V.setting 1 conn (OwnEvents.add_connection conn None s))
+    by true e = B.opens conn None same h
+    by false e = say_hello_flow F {l = []} {s = OwnEvents.add_connection conn None s} 1 conn (inl (same, (e, refl))) (inl (None, same)) (B.opens conn None same h)
+opened_flow {V} F {s} conn (Some peer) same B h =
+    say_hello_flow F {l = []} {s = OwnEvents.dialled_no_more (Some peer) (OwnEvents.add_connection conn (Some peer) s)} _ conn (inr (inl (peer, (same, refl)))) (inl (Some peer, same)) (F.quiet [] _ _ refl (B.opens conn (Some peer) same h))
 
 pub refused_flow : {V : View} (F : Flows V) {l : List Owed} {s : State} (peer : Uuid) → is_ending V.event ≡ true → V.Fails V.setting.classes.unmarshal → V.Fails V.setting.classes.connect → V.Keeps l s → V.Keeps l (OwnEvents.on_refused V.setting peer s)
 unfolding OwnEvents.on_refused

@@ -4,7 +4,7 @@ use mathlib.Core.Path.{sym}
 use Rattle.std.proofs.lemmas.Bool.{true≢false}
 use Rattle.std.specs.List.{list_any}
 use Rattle.std.specs.Str.{bytes_eq}
-use Rattle.std.specs.Prelude.{◌≡◌, ◌⊎◌, refl, ℕ, ◌+◌, ◌==◌, not, nat_le, is_some, is_none, Bool, true, false, List, [], ◌∷◌, ◌++◌, Option, None, Some, filter, find, map, if◌then◌else◌}
+use Rattle.std.specs.Prelude.{◌≡◌, ◌≤◌, ◌⊎◌, refl, ℕ, ◌+◌, ◌==◌, not, nat_le, min, length, is_some, is_none, Bool, true, false, List, [], ◌∷◌, ◌++◌, Option, None, Some, filter, find, map, if◌then◌else◌}
 use Rattle.space_ids.specs.declared.ids.ClassId.{ClassId}
 use Rattle.dgc_client.specs.declared.groups.Group.{Group}
 use Rattle.space_ids.specs.declared.ids.ForeignId.{ForeignId}
@@ -52,12 +52,20 @@ pub record EventParts : Type 0 where
   pub notes : List Note
   pub store : List Stored
 
+-- beside them, which peers were noted
+pub record FrameParts : Type 0 where
+  pub parts : EventParts
+  pub noted : List Uuid
+
 abbrev pub event_parts : State → EventParts
 event_parts s = record { calls_made = s.calls_made; tasks_made = s.tasks_made; tasks = s.tasks; requests = s.requests; fresh = s.fresh; results = s.results; connections = s.connections; parked = s.parked; notes = s.notes; store = s.store }
 
+abbrev pub frame_parts : State → FrameParts
+frame_parts s = record { parts = event_parts s; noted = s.noted }
+
 -- An event of a space; what is known of a connection on which a Hello came, by its number and whether this space dialled it, of the answers to calls that are
--- sent there, and of parked frames; the classes with which failed calls end, and what calls and lookups end with; at what tasks start, with these values; and
--- what is kept.
+-- sent there, and of parked frames; the classes with which failed calls end, and what calls and lookups end with; at what tasks start, with these values; of
+-- the versions that this space speaks on a connection, and of the ids that a dirty or clean call names there; and what is kept.
 pub record View : Type 1 where
   pub setting : Setting
   pub event : Event
@@ -67,20 +75,38 @@ pub record View : Type 1 where
   pub Fails : ClassId → Type 0
   pub Ends : Asked → Reply → Type 0
   pub Starts : Origin → ℕ → List Value → Type 0
+  pub Speaks : ℕ → ℕ → Type 0
+  pub Fits : ℕ → List ObjId → Type 0
   pub Keeps : List Owed → State → Type 0
 
 abbrev pub IsFrom : View → Origin → Type 0
 IsFrom V OfRoot = Unit {0}
 IsFrom V (OfCall conn number) = V.Dialled conn false
 
--- what is known of a frame as it is sent: a call or lookup goes out with its request
+-- A Hello comes with the event on a connection that a peer dialled: a space of version 2 answers with its own.
+pub record AnswersHello (g : Setting) (e : Event) (Dialled : ℕ → Bool → Type 0) (conn : ℕ) : Type 0 where
+  pub version : ℕ
+  pub space : Uuid
+  pub digest : List ℕ
+  pub came : e ≡ Received conn (message.Hello version space digest)
+  pub way : Dialled conn false
+  pub late : nat_le 2 g.version ≡ true
+
+-- The version of a Hello that this space says: of a connection that opens, 1 where a peer dialled and what is spoken with the peer where this space did; or
+-- the lower of both versions, of one that answers.
+abbrev pub IsVersionOf : View → State → ℕ → ℕ → Type 0
+IsVersionOf V s conn version = ((V.event ≡ Opened conn None) × ((nat_le 2 V.setting.version ≡ false) × (version ≡ 1)))
+    ⊎ (((peer : Uuid) × ((V.event ≡ Opened conn (Some peer)) × (version ≡ OwnEvents.version_to V.setting s peer)))
+    ⊎ ((a : AnswersHello V.setting V.event V.Dialled conn) × (version ≡ min a.version V.setting.version)))
+
+-- what is known of a frame as it is sent: a Hello is said as the connection opens, or as the other end's comes; a call or lookup goes out with its request
 abbrev pub CanSend : View → ℕ → Message → Type 0
-CanSend V conn (message.Hello version space digest) = (dialled : Option Uuid) × (V.event ≡ Opened conn dialled)
+CanSend V conn (message.Hello version space digest) = V.Speaks conn version × (((dialled : Option Uuid) × (V.event ≡ Opened conn dialled)) ⊎ AnswersHello V.setting V.event V.Dialled conn)
 CanSend V conn (message.Call number object method fuel arguments) = ⊥
 CanSend V conn (message.Lookup number name) = ⊥
 CanSend V conn (message.Ack number) = V.Dialled conn true
-CanSend V conn (message.Dirty sequence period objects) = V.Dialled conn true
-CanSend V conn (message.Clean sequence strong objects) = V.Dialled conn true
+CanSend V conn (message.Dirty sequence period objects) = V.Dialled conn true × V.Fits conn objects
+CanSend V conn (message.Clean sequence strong objects) = V.Dialled conn true × V.Fits conn objects
 CanSend V conn (message.Returned number fuel value) = V.Dialled conn false × V.Answers conn (message.Returned number fuel value)
 CanSend V conn (message.Threw number class) = V.Dialled conn false × V.Answers conn (message.Threw number class)
 CanSend V conn (message.Spent number) = V.Dialled conn false × V.Answers conn (message.Spent number)
@@ -183,8 +209,10 @@ pub record Flows (V : View) : Type 0 where
   pub gives : (p : ParkedFrame) (value : Option Value) (fuel : ℕ) (asked : Asked) → is_ending V.event ≡ true → V.Known p → p.frame ≡ ReturnedFrame value fuel → ParkedFrames.has_number p.number asked ≡ true → V.Ends asked (GivesBack value fuel)
   pub refuses : (conn number : ℕ) (class : ClassId) → IsRefusal V.setting V.event conn number class → V.Answers conn (message.Threw number class)
   pub finds : (conn number : ℕ) (name : List ℕ) (r : Ref) → V.event ≡ Received conn (message.Lookup number name) → r.space ≡ V.setting.id → V.Answers conn (message.Returned number 0 (Some (values.Ref r)))
+  pub speaks : (l : List Owed) (s : State) (conn version : ℕ) → IsVersionOf V s conn version → V.Keeps l s → V.Speaks conn version
+  pub fits : (l : List Owed) (s : State) (conn : ℕ) (ids : List ObjId) → length ids ≤ Requests.most_on s conn → V.Keeps l s → V.Fits conn ids
   -- outputs
-  pub quiet : (l : List Owed) (s t : State) → event_parts t ≡ event_parts s → V.Keeps l s → V.Keeps l t
+  pub quiet : (l : List Owed) (s t : State) → frame_parts t ≡ frame_parts s → V.Keeps l s → V.Keeps l t
   pub says : (l : List Owed) (s : State) (output : Output) → is_send output ≡ false → MaySay V s output → V.Keeps l s → V.Keeps l (say output s)
   pub sends : (l : List Owed) (s : State) (turn : Turn) (conn : ℕ) (m : Message) → CanSend V conn m → is_open s conn ≡ true → IsHeldFor s.results conn m → V.Keeps l s → V.Keeps l (record s { notes = s.notes ++ Sends turn conn m ∷ [] })
   pub clears : (s : State) → V.Keeps [] s → V.Keeps [] (record s { notes = [] })
@@ -221,6 +249,8 @@ pub record Flows (V : View) : Type 0 where
   -- calls that come
   pub falls : (l : List Owed) (s : State) (conn number : ℕ) → V.Keeps (Inbound conn number ∷ l) s → V.Keeps l s
   pub sent : (l : List Owed) (s : State) (conn : ℕ) (m : Message) → V.Keeps l s → V.Keeps l (state.set_connection (λ (c : Connection). record c { sent = m ∷ c.sent }) conn s)
+  pub versions : (l : List Owed) (s : State) (conn version : ℕ) → V.Speaks conn version → V.Keeps l s → V.Keeps l (Frames.of_version version conn s)
+  pub notes_peer : (l : List Owed) (s : State) (conn : ℕ) (c : Connection) (peer space : Uuid) (digest : List ℕ) → V.event ≡ Received conn (message.Hello 1 space digest) → connection_at s conn ≡ Some c → nat_le 2 c.version ≡ true → V.Keeps l s → V.Keeps l (Endings.note_peer peer s)
   pub counts : (l : List Owed) (s : State) (conn number : ℕ) (c : Connection) → V.Dialled conn false → connection_at s conn ≡ Some c → nat_le number c.last ≡ false → V.Keeps l s → V.Keeps (Inbound conn number ∷ l) (Frames.counted conn number s)
   pub parks_call : (l : List Owed) (s : State) (p : ParkedFrame) → is_finish V.event ≡ false → V.Known p → Frames.is_call_frame p.frame ≡ true → V.Keeps (Inbound p.conn p.number ∷ l) s → V.Keeps l (record s { parked = s.parked ++ p ∷ [] })
   pub parks_result : (l : List Owed) (s : State) (p : ParkedFrame) → V.Known p → Frames.is_call_frame p.frame ≡ false → V.Keeps l s → V.Keeps l (record s { parked = s.parked ++ p ∷ [] })
@@ -269,6 +299,12 @@ pub each_flow : {V : View} (F : Flows V) {l : List Owed} {A : Type 0} {s : State
 unfolding each
 each_flow F f [] k h = h
 each_flow F {s = s} f (x ∷ xs) k h = each_flow F f xs k (k s x h)
+
+-- each of which something is known
+pub each_known_flow : {V : View} (F : Flows V) {l : List Owed} {A : Type 0} (Is : A → Type 0) {s : State} (f : State → A → State) (xs : List A) → AllOf Is xs → ((t : State) (x : A) → Is x → V.Keeps l t → V.Keeps l (f t x)) → V.Keeps l s → V.Keeps l (each f xs s)
+unfolding each
+each_known_flow F Is f [] a k h = h
+each_known_flow F Is {s = s} f (x ∷ xs) a k h = each_known_flow F Is f xs a.1 k (k s x a.0 h)
 
 -- each ends one that was removed
 pub each_removed : {V : View} (F : Flows V) {l : List Owed} {s : State} (f : State → Request → State) (rs : List Request) → ((m : List Owed) (t : State) (q : Request) → V.Keeps (Removed q.peer q.asked ∷ m) t → V.Keeps m (f t q)) → V.Keeps (removed rs ++ l) s → V.Keeps l (each f rs s)

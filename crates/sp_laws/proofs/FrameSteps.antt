@@ -1,9 +1,10 @@
 -- Requests, tasks and parked frames, and connections that end: each rule keeps what the moves keep.
 use mathlib.Core.Path.{sym, ap, subst}
-use Rattle.std.proofs.Common.{inl, inr}
+use Rattle.std.proofs.Common.{inl, inr, arith, length-take}
 use Rattle.std.proofs.lemmas.Bool.{true≢false}
-use Rattle.std.specs.Prelude.{◌≡◌, refl, ℕ, ◌+◌, ◌==◌, ◌&&◌, ◌||◌, not, is_some, is_none, Bool, true, false, List, [], ◌∷◌, ◌++◌, Option, None, Some, filter, find, if◌then◌else◌}
+use Rattle.std.specs.Prelude.{◌≡◌, ◌≤◌, refl, ℕ, zero, suc, ◌+◌, ◌==◌, ◌&&◌, ◌||◌, not, nat_le, length, take, drop, map, is_some, is_none, Bool, true, false, List, [], ◌∷◌, ◌++◌, Option, None, Some, filter, find, if◌then◌else◌}
 use Rattle.space_ids.specs.declared.ids.ClassId.{ClassId}
+use Rattle.dgc_client.specs.Groups as groups
 use Rattle.dgc_client.specs.History as lease_events
 use Rattle.dgc_client.specs.Lease as lease
 use Rattle.dgc_client.specs.Table as client
@@ -18,7 +19,7 @@ use Rattle.space_ids.specs.declared.value.Value.{Value}
 use Rattle.sp_rules.specs.Behaviours.{Outcome, Returned, Threw, Spent, Op, Create, Get, Put, Call, Reply, Throws}
 use Rattle.sp_rules.specs.Classes.{Setting}
 use Rattle.sp_rules.specs.Endings
-use Rattle.sp_rules.specs.Events.{Ended, Turn, Parked, Finished, Dial, Close, Ready}
+use Rattle.sp_rules.specs.Events.{Ended, Turn, Received, Parked, Finished, Dial, Close, Ready}
 use Rattle.sp_rules.specs.Frames
 use Rattle.sp_rules.specs.Holders
 use Rattle.sp_rules.specs.Holders.{hold_ids, drop_ids}
@@ -32,29 +33,41 @@ use Rattle.sp_rules.specs.Space
 use Rattle.sp_rules.specs.State as state
 use Rattle.sp_rules.specs.State.{State, Object, Made, Written, Living, Origin, OfRoot, OfCall, Until, Request, Asked, Calls, LooksUp, Tells, Connection, KeptResult, Frame, CallFrame, ReturnedFrame, ParkedFrame, task_at, ready_at, object_at, connection_at, connection_to, is_open, set_task, say, send}
 use Rattle.sp_rules.specs.Tasks.{Stand, Runs, AsksFor, HasEnded, stand, steps, answer, gained}
-use Rattle.sp_rules.proofs.AllLemmas.{found-is, all-found, all-filter}
+use Rattle.sp_rules.proofs.AllLemmas.{found-is, all-found, all-filter, all-weaken}
 use Rattle.sp_rules.proofs.OwnLemmas.{some-same}
 use Rattle.sp_rules.proofs.ReadyLemmas.{ready-is}
 use Rattle.sp_laws.proofs.FlowRules.{Owed, Removed, Inbound, of_origin, of_until}
-use Rattle.sp_laws.proofs.ShutLemmas.{connection-ends}
+use Rattle.sp_laws.proofs.ShutLemmas.{connection-ends, connection-goes}
 use Rattle.sp_laws.specs.Sent.{IsCallRefusal}
-use Rattle.sp_laws.proofs.FrameFlows.{HasComeOn, View, IsFrom, CanSend, IsKeptIn, IsHeldFor, is_finish, is_ending, is_storing, ending-goes, ending-apart, out, Flows, Begins, if_flow, some_flow, each_flow, each_removed, send_flow, hold_flow, drop_flow, let_go_flow}
+use Rattle.sp_laws.proofs.FrameFlows.{HasComeOn, View, IsFrom, CanSend, IsKeptIn, IsHeldFor, is_finish, is_ending, is_storing, ending-goes, ending-apart, out, Flows, Begins, if_flow, some_flow, each_flow, each_known_flow, each_removed, send_flow, hold_flow, drop_flow, let_go_flow}
 
 -- ---- requests
 
 -- a dirty or clean call goes to the space that was dialled
-pub group-goes : (V : View) (conn sequence : ℕ) (ids : List ObjId) → V.Dialled conn true → (kind : Due) → CanSend V conn (Requests.group_frame kind sequence ids)
-group-goes V conn sequence ids there due.Dirty = there
-group-goes V conn sequence ids there (due.Clean strong) = there
+pub group-goes : (V : View) (conn sequence : ℕ) (ids : List ObjId) → V.Dialled conn true → V.Fits conn ids → (kind : Due) → CanSend V conn (Requests.group_frame kind sequence ids)
+group-goes V conn sequence ids there fits due.Dirty = (there, fits)
+group-goes V conn sequence ids there fits (due.Clean strong) = (there, fits)
+
+pieces-fit : (count most : ℕ) (group : Group) (ids : List ObjId) → AllOf (λ (part : Group). length part.ids ≤ most) (map (groups.part_of group) (groups.pieces_within count most ids))
+pieces-fit zero most group ids = tt
+pieces-fit (suc count) most group [] = tt
+pieces-fit (suc count) most group (id ∷ ids) =
+    let short : length (take most (id ∷ ids)) ≤ most = omega (arith, length-take most (id ∷ ids)) in
+    (short, pieces-fit count most group (drop most (id ∷ ids)))
+
+-- each part of a group fits a frame of the connection
+parts-fit : {V : View} (F : Flows V) {l : List Owed} {s : State} (conn : ℕ) (group : Group) → V.Keeps l s → AllOf (λ (part : Group). V.Fits conn part.ids) (groups.parts_of (Requests.most_on s conn) group)
+parts-fit {V} F {l} {s} conn group h = all-weaken (λ (part : Group). length part.ids ≤ Requests.most_on s conn) (λ (part : Group). V.Fits conn part.ids) (groups.parts_of (Requests.most_on s conn) group)
+    (λ part few. F.fits l s conn part.ids few h) (pieces-fit (length group.ids) (Requests.most_on s conn) group group.ids)
 
 -- a dirty or clean call is no result
 pub group-held : (results : List KeptResult) (conn sequence : ℕ) (ids : List ObjId) (kind : Due) → IsHeldFor results conn (Requests.group_frame kind sequence ids)
 group-held results conn sequence ids due.Dirty = tt
 group-held results conn sequence ids (due.Clean strong) = tt
 
-pub part_flow : {V : View} (F : Flows V) {l : List Owed} {s : State} (turn : Turn) (conn call : ℕ) (part : Group) → V.Dialled conn true → V.Keeps l s → V.Keeps l (Requests.part_goes_out turn conn call s part)
+pub part_flow : {V : View} (F : Flows V) {l : List Owed} {s : State} (turn : Turn) (conn call : ℕ) (part : Group) → V.Dialled conn true → V.Fits conn part.ids → V.Keeps l s → V.Keeps l (Requests.part_goes_out turn conn call s part)
 unfolding Requests.part_goes_out
-part_flow {V} F {l} {s} turn conn call part there h = send_flow F turn conn _ (group-goes V conn (client.numbers_of s.leases + 1) part.ids there part.kind) (group-held s.results conn (client.numbers_of s.leases + 1) part.ids part.kind) (F.tells l _ _ call part refl (F.quiet l s (record s { leases = client.sent part call s.leases }) refl h))
+part_flow {V} F {l} {s} turn conn call part there fits h = send_flow F turn conn _ (group-goes V conn (client.numbers_of s.leases + 1) part.ids there fits part.kind) (group-held s.results conn (client.numbers_of s.leases + 1) part.ids part.kind) (F.tells l _ _ call part refl (F.quiet l s (record s { leases = client.sent part call s.leases }) refl h))
 
 pub go_out_flow : {V : View} (F : Flows V) {l : List Owed} {s : State} (turn : Turn) (conn : ℕ) (q : Request) → V.Dialled conn true → V.Keeps (Removed q.peer q.asked ∷ l) s → V.Keeps l (Requests.go_out turn conn q s)
 unfolding Requests.go_out send
@@ -71,7 +84,9 @@ go_out_flow {V} F {l} {s} turn conn q there h = goes q.asked h
         by : (b : Bool) → is_open s conn ≡ b → V.Keeps l (if b then out turn conn (message.Lookup number name) (record { peer = q.peer; asked = LooksUp number task name; stage = state.Out conn 0 }) s else Requests.add_request (record { peer = q.peer; asked = LooksUp number task name; stage = state.Out conn 0 }) s)
         by true e = F.looks_out l s turn conn q.peer number task name there e k
         by false e = F.adds l s (record { peer = q.peer; asked = LooksUp number task name; stage = state.Out conn 0 }) k
-    goes (Tells call group) k = each_flow F _ _ (λ t part j. part_flow F turn conn call part there j) (F.told l s q.peer call group k)
+    goes (Tells call group) k =
+        let told : V.Keeps l s = F.told l s q.peer call group k in
+        each_known_flow F (λ (part : Group). V.Fits conn part.ids) _ _ (parts-fit F conn group told) (λ t part fits j. part_flow F turn conn call part there fits j) told
 
 pub dial_flow : {V : View} (F : Flows V) {l : List Owed} {s : State} (peer : Uuid) → V.Keeps l s → V.Keeps l (Requests.dial peer s)
 unfolding Requests.dial
@@ -116,7 +131,7 @@ make_group_flow {V} F {l} {s} b h = some_flow F (Requests.hello_came (connection
     kept = F.quiet l s _ refl h
 
     outs : (conn : ℕ) → V.Dialled conn true → V.Keeps l (Requests.go_out (Requests.turn_of b.kind) conn (record { peer = b.peer; asked = Tells (s.groups_made + 1) b; stage = state.Waits }) made)
-    outs conn there = each_flow F _ _ (λ t part j. part_flow F _ conn (s.groups_made + 1) part there j) kept
+    outs conn there = each_known_flow F (λ (part : Group). V.Fits conn part.ids) _ _ (parts-fit F conn b kept) (λ t part fits j. part_flow F _ conn (s.groups_made + 1) part there fits j) kept
 
 pub settle_flow : {V : View} (F : Flows V) {s : State} → V.Keeps [] s → V.Keeps [] (Requests.settle s)
 unfolding Requests.settle Requests.make_due Requests.ask_fresh
@@ -325,10 +340,19 @@ end_requests_flow {V} F {l} {s} is why going may all h =
     (each_removed F _ (filter (λ (q : Request). not (Endings.is_group q.asked)) (filter is s.requests)) (λ m t q k. end_asked_flow F (why q.asked) q.asked going may (all q.asked) k)
     (F.sorts l _ (λ (q : Request). Endings.is_group q.asked) (filter is s.requests) (F.removes l s is h)))
 
+pub let_connection_go_flow : {V : View} (F : Flows V) {l : List Owed} {s : State} (conn : ℕ) (c : Connection) → connection_at s conn ≡ Some c → V.Fails V.setting.classes.unmarshal → V.Keeps l s → V.Keeps l (Endings.let_connection_go conn s)
+let_connection_go_flow F {l = l} {s} conn c is may h = each_flow F _ _ (λ t p k. let_go_flow F p t.parked (F.takes l t p k)) (F.closes l s conn c is may h)
+
 pub end_connection_flow : {V : View} (F : Flows V) {l : List Owed} {s : State} (why : Asked → ClassId) (conn : ℕ) → is_ending V.event ≡ true → V.Fails V.setting.classes.unmarshal → ((asked : Asked) → V.Fails (why asked)) → V.Keeps l s → V.Keeps l (Endings.end_connection V.setting why conn s)
 unfolding Endings.end_connection
-end_connection_flow {V} F {l} {s} why conn going may all h = some_flow F (connection_at s conn) _ h (λ c is. end_requests_flow F _ why going may all (each_flow F _ _ (λ t p k. let_go_flow F p t.parked (F.takes l t p k)) (F.closes l s conn c is may h)))
+end_connection_flow {V} F {l} {s} why conn going may all h = some_flow F (connection_at s conn) _ h (λ c is. end_requests_flow F _ why going may all (let_connection_go_flow F {l = l} conn c is may h))
 
 pub close_flow : {V : View} (F : Flows V) {l : List Owed} {s : State} (class : ClassId) (conn : ℕ) → HasComeOn V conn → V.Fails V.setting.classes.unmarshal → V.Fails class → V.Keeps l s → V.Keeps l (Endings.close V.setting class conn s)
 unfolding Endings.close
 close_flow {V} F {l} {s} class conn came may why h = F.says l _ (Close conn) refl (came, connection-ends V.setting (λ asked. class) conn s) (end_connection_flow F _ conn (ap is_ending came.1) may (λ asked. why) h)
+
+pub redial_flow : {V : View} (F : Flows V) {l : List Owed} {s : State} (peer : Uuid) (conn : ℕ) (c : Connection) (space : Uuid) (digest : List ℕ) → V.event ≡ Received conn (message.Hello 1 space digest) → nat_le 2 c.version ≡ true → V.Fails V.setting.classes.unmarshal → connection_at s conn ≡ Some c → V.Keeps l s
+    → V.Keeps l (Endings.redial peer conn s)
+unfolding Endings.redial
+redial_flow {V} F {l} {s} peer conn c space digest came higher may is h = dial_flow F peer (F.says l _ (Close conn) refl ((message.Hello 1 space digest, came), connection-goes V.setting conn (Endings.note_peer peer s))
+    (let_connection_go_flow F {l = l} {s = Endings.note_peer peer s} conn c is may (F.notes_peer l s conn c peer space digest came is higher h)))

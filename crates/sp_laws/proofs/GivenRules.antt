@@ -163,7 +163,7 @@ go_out_given {g} {l} {s} turn conn q h = goes q.asked h
     goes : (asked : Asked) → Given g (asked ∷ l) s → Given g l (Requests.goes_out turn conn q.peer asked s)
     goes (Calls number task lent kind m) k = send_given turn conn m (add_given _ tt (drop_asked (Calls number task lent kind m) k))
     goes (LooksUp number task name) k = send_given turn conn _ (add_given _ k.parts.removed.0 (drop_asked (LooksUp number task name) k))
-    goes (Tells call group) k = each_given (Requests.part_goes_out turn conn call) (groups.parts_of 1024 group) (λ t part j. part_given turn conn call part j) (drop_asked (Tells call group) k)
+    goes (Tells call group) k = each_given (Requests.part_goes_out turn conn call) (groups.parts_of (Requests.most_on s conn) group) (λ t part j. part_given turn conn call part j) (drop_asked (Tells call group) k)
 
 dial_given : {g : Setting} {l : List Asked} {s : State} (peer : Uuid) → Given g l s → Given g l (Requests.dial peer s)
 unfolding Requests.dial
@@ -372,9 +372,16 @@ orphan-given made conn moment k h = at k.until refl h
 shut_given : {g : Setting} {l : List Asked} {s : State} (conn : ℕ) → Given g l s → Given g l (Endings.without_connection conn s)
 shut_given {s = s} conn h = now {s = s} _ s.tasks s.requests s.fresh (map (Endings.orphan conn s.moment) s.results) refl h.parts.tasks h.parts.requests h.parts.fresh (all-map (λ (k : KeptResult). WaitsForGiven s.tasks_made k.until) (λ (k : KeptResult). WaitsForGiven s.tasks_made k.until) (Endings.orphan conn s.moment) s.results (λ k x. orphan-given s.tasks_made conn s.moment k x) h.parts.results) h.parts.removed h
 
+let_connection_go_given : {g : Setting} {s : State} (conn : ℕ) → Given g [] s → Given g [] (Endings.let_connection_go conn s)
+let_connection_go_given conn h = each_given _ _ (λ t p k. let_go_given p t.parked (quiet _ refl k)) (shut_given conn h)
+
 end_connection_given : {g : Setting} {s : State} (why : Asked → ClassId) (conn : ℕ) → Given g [] s → Given g [] (Endings.end_connection g why conn s)
 unfolding Endings.end_connection
-end_connection_given {s = s} why conn h = some_given (connection_at s conn) _ h (λ c is. end_requests_given _ why (each_given _ _ (λ t p k. let_go_given p t.parked (quiet _ refl k)) (shut_given conn h)))
+end_connection_given {s = s} why conn h = some_given (connection_at s conn) _ h (λ c is. end_requests_given _ why (let_connection_go_given conn h))
+
+redial_given : {g : Setting} {s : State} (peer : Uuid) (conn : ℕ) → Given g [] s → Given g [] (Endings.redial peer conn s)
+unfolding Endings.redial
+redial_given {s = s} peer conn h = dial_given peer (quiet _ refl (let_connection_go_given {s = Endings.note_peer peer s} conn (quiet _ refl h)))
 
 close_given : {g : Setting} {s : State} (class : ClassId) (conn : ℕ) → Given g [] s → Given g [] (Endings.close g class conn s)
 unfolding Endings.close
@@ -382,9 +389,13 @@ close_given class conn h = quiet _ refl (end_connection_given _ conn h)
 
 -- ---- frames that come
 
+say_hello_given : {g : Setting} {s : State} (version conn : ℕ) → Given g [] s → Given g [] (Frames.say_hello g version conn s)
+say_hello_given {g} version conn h = quiet _ refl (send_given Rattle.sp_rules.specs.Events.Hellos conn (message.Hello version g.id g.digest) h)
+
 first_given : {g : Setting} {s : State} (c : Connection) (m : Message) → Given g [] s → Given g [] (Frames.first_frame g c m s)
 unfolding Frames.first_frame
-first_given {g} {s} c (message.Hello version space digest) h = some_given c.dialled _ (if_given _ known (close_given _ c.number h)) (λ peer is. if_given _ (flush_given peer c.number known) (close_given _ c.number h))
+first_given {g} {s} c (message.Hello version space digest) h = some_given c.dialled _ (if_given _ (if_given (nat_le 2 g.version) (say_hello_given _ c.number known) known) (close_given _ c.number h))
+    (λ peer is. if_given _ (if_given (version == c.version) (flush_given peer c.number known) (if_given (nat_le 2 c.version && version == 1) (redial_given peer c.number h) (close_given _ c.number h))) (close_given _ c.number h))
   where
     known : Given g [] (Frames.greeted space c.number s)
     known = quiet _ refl h
@@ -456,9 +467,9 @@ got_given c (message.Returned number fuel value) h = answered_by_given c number 
 got_given {g} c (message.Threw number class) h = answered_by_given c number _ (λ asked ok. ends_as_given c number (λ a. Frames.thrown_reply g class) asked ok h) h
 got_given {g} c (message.Spent number) h = answered_by_given c number _ (λ asked ok. ends_as_given c number (Frames.spent_reply g) asked ok h) h
 got_given c (message.Ack number) h = got_ack_given c number h
-got_given c (message.Dirty sequence period objects) h = send_given _ c.number _ (quiet _ refl h)
+got_given c (message.Dirty sequence period objects) h = if_given (Frames.fit_frame c objects) (send_given _ c.number _ (quiet _ refl h)) (close_given _ c.number h)
 got_given c (message.Lease sequence period) h = told_by_given c true sequence (λ call. lease_events.DirtyAnswered call period) h
-got_given c (message.Clean sequence strong objects) h = send_given _ c.number _ (quiet _ refl h)
+got_given c (message.Clean sequence strong objects) h = if_given (Frames.fit_frame c objects) (send_given _ c.number _ (quiet _ refl h)) (close_given _ c.number h)
 got_given c (message.Cleaned sequence) h = told_by_given c false sequence lease_events.CleanAnswered h
 got_given c (message.Lookup number name) h = got_lookup_given c number name h
 
@@ -495,8 +506,8 @@ lookup_given {s = s} peer name h = if_given (is_name name) (fresh_given {s = rec
 
 opened_given : {g : Setting} {s : State} (conn : ℕ) (dialled : Option Uuid) → Given g [] s → Given g [] (OwnEvents.on_opened g conn dialled s)
 unfolding OwnEvents.on_opened
-opened_given conn None h = send_given _ conn _ (quiet _ refl h)
-opened_given conn (Some peer) h = send_given _ conn _ (quiet _ refl h)
+opened_given {g} conn None h = if_given (nat_le 2 g.version) (quiet _ refl h) (say_hello_given 1 conn (quiet _ refl h))
+opened_given conn (Some peer) h = say_hello_given _ conn (quiet _ refl h)
 
 refused_given : {g : Setting} {s : State} (peer : Uuid) → Given g [] s → Given g [] (OwnEvents.on_refused g peer s)
 unfolding OwnEvents.on_refused

@@ -313,12 +313,12 @@ came-begin g s conn k o e new = record {
 }
   where
     opening-row : (c : ℕ) (dialled : Option Uuid) → CameOnce conn k o [] s → (b : Bool) → (c == conn) ≡ b → ((c == conn) ≡ true → (occurrences_of conn k s ≡ 0) × ((is_open s conn ≡ false) × (1 ≤ o))) → CameOnce conn k o [] (OwnEvents.add_connection c dialled s)
-    opening-row c dialled h false e n = fewer {l = []} {m = []} {s = s} (omega arith) (more-row conn (record { number = c; dialled = dialled; peer = None; last = 0; sent = [] }) e s.connections) h
+    opening-row c dialled h false e n = fewer {l = []} {m = []} {s = s} (omega arith) (more-row conn (record { number = c; dialled = dialled; peer = None; version = 1; last = 0; sent = [] }) e s.connections) h
     opening-row c dialled h true e n =
         let x : (occurrences_of conn k s ≡ 0) × ((is_open s conn ≡ false) × (1 ≤ o)) = n e in
         let z : occurrences_of conn k s ≡ 0 = x.0 in
         let w : 1 ≤ o = x.1.1 in
-        let now : connection_at (OwnEvents.add_connection c dialled s) conn ≡ Some (record { number = c; dialled = dialled; peer = None; last = 0; sent = [] }) = new-row conn (record { number = c; dialled = dialled; peer = None; last = 0; sent = [] }) e s.connections x.1.0 in record {
+        let now : connection_at (OwnEvents.add_connection c dialled s) conn ≡ Some (record { number = c; dialled = dialled; peer = None; version = 1; last = 0; sent = [] }) = new-row conn (record { number = c; dialled = dialled; peer = None; version = 1; last = 0; sent = [] }) e s.connections x.1.0 in record {
           live = let v : count (is_open (OwnEvents.add_connection c dialled s) conn) ≡ 1 = ap (λ y. count (is_some y)) now in omega arith;
           bound = omega arith;
         }

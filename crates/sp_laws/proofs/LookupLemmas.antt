@@ -110,6 +110,8 @@ view g before e = record {
   Fails = IsFailure g e;
   Ends = λ asked reply. (is_ending e ≡ true) × ((n : ℕ) → ParkedFrames.has_number n asked ≡ true → EndsLookup g before e asked n reply);
   Starts = λ o n a. Unit {0};
+  Speaks = λ c version. Unit {0};
+  Fits = λ c ids. Unit {0};
   Keeps = λ l s. Looks g before e l (event_parts s);
 }
 
@@ -172,6 +174,8 @@ lookups_flow g before e = record {
   gives = λ p value fuel asked is known eq has. (is, λ n also. giving g before e asked value fuel n (subst (λ x. MayEndWith g before e x (GivesBack value fuel)) (same-number p.number n asked has also) (known value fuel eq)));
   refuses = λ c n class is. tt;
   finds = λ c n name r is own. tt;
+  speaks = λ c version. tt;
+  fits = λ c ids. tt;
   quiet = λ l s u eq k. subst (Looks g before e l) (sym eq) k;
   says = λ l s output is so k. notes-more s (Says output) (said g before e output so) k;
   sends = λ l s turn c m may held k. notes-more s (Sends turn c m) tt k;

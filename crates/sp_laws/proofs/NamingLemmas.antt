@@ -244,8 +244,8 @@ group-kind r b = rows b.ids ∙ group-any r b
     rows (id ∷ ids) = let a : total (hit r b.kind) (map (call_of b.peer b.kind) ids) ≡ total (hit_any r) (map (call_of b.peer b.kind) ids) = rows ids in let c : hit r b.kind (call_of b.peer b.kind id) ≡ hit_any r (call_of b.peer b.kind id) = hit-own-kind r (call_of b.peer b.kind id) in omega arith
 
 -- the parts of a group name the reference as often as the group
-pub parts-any : (r : ForeignId) (b : Group) → total (times_named r) (parts_of 1024 b) ≡ times_named r b
-parts-any r b = joined (parts_of 1024 b) ∙ (ap (total (hit_any r)) (parts-joined 1024 b (omega arith)) ∙ group-any r b)
+pub parts-any : (most : ℕ) → 1 ≤ most → (r : ForeignId) (b : Group) → total (times_named r) (parts_of most b) ≡ times_named r b
+parts-any most some r b = joined (parts_of most b) ∙ (ap (total (hit_any r)) (parts-joined most b some) ∙ group-any r b)
   where
     joined : (bs : List Group) → total (times_named r) bs ≡ total (hit_any r) (flat_map calls_of bs)
     joined [] = refl

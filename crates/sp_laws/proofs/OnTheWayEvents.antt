@@ -3,7 +3,7 @@ use mathlib.Core.Path.{sym, ap}
 use Rattle.std.proofs.Common.{arith}
 use Rattle.std.proofs.lemmas.Bool.{true≢false, leb-true, leb-false}
 use Rattle.std.specs.List.{list_any}
-use Rattle.std.specs.Prelude.{◌≡◌, refl, ℕ, ◌+◌, ◌≤◌, ◌<◌, ◌&&◌, ◌||◌, not, nat_le, nat_lt, is_some, is_none, Bool, true, false, cond, List, [], ◌∷◌, ◌++◌, Option, None, Some, Result, Ok, Err, filter, find, length}
+use Rattle.std.specs.Prelude.{◌≡◌, refl, ℕ, ◌+◌, ◌≤◌, ◌<◌, ◌==◌, ◌&&◌, ◌||◌, not, nat_le, nat_lt, is_some, is_none, Bool, true, false, cond, List, [], ◌∷◌, ◌++◌, Option, None, Some, Result, Ok, Err, filter, find, length}
 use Rattle.dgc_client.specs.declared.groups.Group.{Group}
 use Rattle.dgc_client.specs.declared.lease.Due.{Due}
 use Rattle.dgc_client.specs.declared.lease.Due.TheVariants as due
@@ -51,7 +51,7 @@ use Rattle.sp_laws.proofs.NamingLemmas.{known-at, known-other, times-cons, other
 use Rattle.sp_laws.proofs.PointerLemmas.{bit, bit-false, Named, Ends, dirty-answered, dirty-failed, clean-answered, clean-failed}
 use Rattle.sp_laws.proofs.WayLemmas.{Way, under, given, quiet, leases_way, drop_asked, asked_in, removes_way, sorts_way, call_gone, answered_way, told_gone}
 use Rattle.sp_laws.proofs.GroupMoves.{other_ends, one_ends, few_of, told_ends}
-use Rattle.sp_laws.proofs.OnTheWayRules.{if_way, some_way, each_way, each_removed, send_way, hold_way, drop_way, let_go_way, flush_way, fresh_way, settle_way}
+use Rattle.sp_laws.proofs.OnTheWayRules.{dial_way, if_way, some_way, each_way, each_removed, send_way, hold_way, drop_way, let_go_way, flush_way, fresh_way, settle_way}
 
 -- ---- tasks
 
@@ -240,19 +240,30 @@ end_requests_way {s = s} is why h =
     (each_removed {l = asked_in (filter (λ (q : Request). is_group q.asked) (filter is s.requests)) ++ []} (λ (q : Request). q.asked) _ (filter (λ (q : Request). not (is_group q.asked)) (filter is s.requests)) (λ m t q k. end_asked_way (why q.asked) q.asked k)
     (sorts_way [] (λ (q : Request). is_group q.asked) (filter is s.requests) (removes_way is h)))
 
+let_connection_go_way : {g : Setting} {r : ForeignId} {s : State} (conn : ℕ) → Way g r [] s → Way g r [] (Endings.let_connection_go conn s)
+let_connection_go_way conn h = each_way _ _ (λ t p k. let_go_way p t.parked (quiet _ refl k)) (quiet _ refl h)
+
 end_connection_way : {g : Setting} {r : ForeignId} {s : State} (why : Asked → ClassId) (conn : ℕ) → Way g r [] s → Way g r [] (Endings.end_connection g why conn s)
 unfolding Endings.end_connection
-end_connection_way {s = s} why conn h = some_way (connection_at s conn) _ h (λ c is. end_requests_way _ why (each_way _ _ (λ t p k. let_go_way p t.parked (quiet _ refl k)) (quiet _ refl h)))
+end_connection_way {s = s} why conn h = some_way (connection_at s conn) _ h (λ c is. end_requests_way _ why (let_connection_go_way conn h))
 
 close_way : {g : Setting} {r : ForeignId} {s : State} (class : ClassId) (conn : ℕ) → Way g r [] s → Way g r [] (Endings.close g class conn s)
 unfolding Endings.close
 close_way class conn h = quiet _ refl (end_connection_way _ conn h)
 
+redial_way : {g : Setting} {r : ForeignId} {s : State} (peer : Uuid) (conn : ℕ) → Way g r [] s → Way g r [] (Endings.redial peer conn s)
+unfolding Endings.redial
+redial_way {s = s} peer conn h = dial_way {l = []} peer (quiet _ refl (let_connection_go_way {s = Endings.note_peer peer s} conn (quiet _ refl h)))
+
 -- ---- frames that come
+
+say_hello_way : {g : Setting} {r : ForeignId} {s : State} (version conn : ℕ) → Way g r [] s → Way g r [] (Frames.say_hello g version conn s)
+say_hello_way {g} version conn h = quiet _ refl (send_way Rattle.sp_rules.specs.Events.Hellos conn (message.Hello version g.id g.digest) h)
 
 first_way : {g : Setting} {r : ForeignId} {s : State} (c : Connection) (m : Message) → Way g r [] s → Way g r [] (Frames.first_frame g c m s)
 unfolding Frames.first_frame
-first_way {g} {r} {s} c (message.Hello version space digest) h = some_way c.dialled _ (if_way _ known (close_way _ c.number h)) (λ peer is. if_way _ (flush_way peer c.number known) (close_way _ c.number h))
+first_way {g} {r} {s} c (message.Hello version space digest) h = some_way c.dialled _ (if_way _ (if_way (nat_le 2 g.version) (say_hello_way _ c.number known) known) (close_way _ c.number h))
+    (λ peer is. if_way _ (if_way (version == c.version) (flush_way peer c.number known) (if_way (nat_le 2 c.version && version == 1) (redial_way peer c.number h) (close_way _ c.number h))) (close_way _ c.number h))
   where
     known : Way g r [] (Frames.greeted space c.number s)
     known = quiet _ refl h
@@ -318,9 +329,9 @@ got_way c (message.Returned number fuel value) h = answered_by_way c number _ (�
 got_way {g} c (message.Threw number class) h = answered_by_way c number _ (λ asked. ends_as_way c number (λ a. Frames.thrown_reply g class) asked h) h
 got_way {g} c (message.Spent number) h = answered_by_way c number _ (λ asked. ends_as_way c number (Frames.spent_reply g) asked h) h
 got_way c (message.Ack number) h = got_ack_way c number h
-got_way c (message.Dirty sequence period objects) h = send_way _ c.number _ (quiet _ refl h)
+got_way c (message.Dirty sequence period objects) h = if_way (Frames.fit_frame c objects) (send_way _ c.number _ (quiet _ refl h)) (close_way _ c.number h)
 got_way c (message.Lease sequence period) h = told_by_way c true sequence (λ call. lease_events.DirtyAnswered call period) (λ call. dirty-answered call period) h
-got_way c (message.Clean sequence strong objects) h = send_way _ c.number _ (quiet _ refl h)
+got_way c (message.Clean sequence strong objects) h = if_way (Frames.fit_frame c objects) (send_way _ c.number _ (quiet _ refl h)) (close_way _ c.number h)
 got_way c (message.Cleaned sequence) h = told_by_way c false sequence lease_events.CleanAnswered clean-answered h
 got_way c (message.Lookup number name) h = got_lookup_way c number name h
 
@@ -354,8 +365,8 @@ lookup_way {s = s} peer name h = if_way (is_name name) (fresh_way {s = s} _ _ re
 
 opened_way : {g : Setting} {r : ForeignId} {s : State} (conn : ℕ) (dialled : Option Uuid) → Way g r [] s → Way g r [] (OwnEvents.on_opened g conn dialled s)
 unfolding OwnEvents.on_opened
-opened_way conn None h = send_way _ conn _ (quiet _ refl h)
-opened_way conn (Some peer) h = send_way _ conn _ (quiet _ refl h)
+opened_way {g} conn None h = if_way (nat_le 2 g.version) (quiet _ refl h) (say_hello_way 1 conn (quiet _ refl h))
+opened_way conn (Some peer) h = say_hello_way _ conn (quiet _ refl h)
 
 refused_way : {g : Setting} {r : ForeignId} {s : State} (peer : Uuid) → Way g r [] s → Way g r [] (OwnEvents.on_refused g peer s)
 unfolding OwnEvents.on_refused

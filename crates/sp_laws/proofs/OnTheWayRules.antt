@@ -26,6 +26,7 @@ use Rattle.sp_rules.specs.Holders.{hold_ids, drop_ids, times_in}
 use Rattle.sp_rules.specs.Laws.{AllOf}
 use Rattle.sp_rules.specs.Lists.{each, with_some, total}
 use Rattle.sp_rules.specs.ParkedFrames
+use Rattle.sp_rules.proofs.LineLemmas.{most-some}
 use Rattle.sp_rules.specs.Requests
 use Rattle.sp_rules.specs.State as state
 use Rattle.sp_rules.specs.State.{State, Living, Origin, OfRoot, OfCall, Until, Request, Asked, Calls, LooksUp, Tells, Stage, Waits, Out, Answered, Connection, Frame, CallFrame, ReturnedFrame, ParkedFrame, task_at, ready_at, object_at, connection_at, connection_to, is_open, send}
@@ -92,10 +93,10 @@ parts-named r d x call b (ids ∷ pieces) = pick (call == x && tells_of d (Tells
     pick true e = omega arith
     pick false e = omega arith
 
-parts_way : {g : Setting} {r : ForeignId} {l : List Asked} {s : State} (call : ℕ) (b : Group) → Way g r (Tells call b ∷ l) s → Way g r (map (Tells call) (groups.parts_of 1024 b) ++ l) s
-parts_way {g} {r} {l} {s} call b h = named_way {l = Tells call b ∷ l} {m = map (Tells call) (groups.parts_of 1024 b) ++ l} (λ d x.
-    let a : total (names_in d x r) (map (Tells call) (groups.parts_of 1024 b) ++ l) ≡ total (names_in d x r) (map (Tells call) (groups.parts_of 1024 b)) + total (names_in d x r) l = total-append (names_in d x r) (map (Tells call) (groups.parts_of 1024 b)) l in
-    let c : total (names_in d x r) (map (Tells call) (groups.parts_of 1024 b)) ≡ names_in d x r (Tells call b) = parts-named r d x call b (groups.pieces 1024 b.ids) ∙ ap (λ n. if call == x && tells_of d (Tells call b) then n else 0) (parts-any r b) in omega arith) h
+parts_way : {g : Setting} {r : ForeignId} {l : List Asked} {s : State} (most : ℕ) → 1 ≤ most → (call : ℕ) (b : Group) → Way g r (Tells call b ∷ l) s → Way g r (map (Tells call) (groups.parts_of most b) ++ l) s
+parts_way {g} {r} {l} {s} most some call b h = named_way {l = Tells call b ∷ l} {m = map (Tells call) (groups.parts_of most b) ++ l} (λ d x.
+    let a : total (names_in d x r) (map (Tells call) (groups.parts_of most b) ++ l) ≡ total (names_in d x r) (map (Tells call) (groups.parts_of most b)) + total (names_in d x r) l = total-append (names_in d x r) (map (Tells call) (groups.parts_of most b)) l in
+    let c : total (names_in d x r) (map (Tells call) (groups.parts_of most b)) ≡ names_in d x r (Tells call b) = parts-named r d x call b (groups.pieces most b.ids) ∙ ap (λ n. if call == x && tells_of d (Tells call b) then n else 0) (parts-any most some r b) in omega arith) h
 
 go_out_way : {g : Setting} {r : ForeignId} {l : List Asked} {s : State} (turn : Turn) (conn : ℕ) (q : Request) → Way g r (q.asked ∷ l) s → Way g r l (Requests.go_out turn conn q s)
 unfolding Requests.go_out
@@ -104,9 +105,9 @@ go_out_way {g} {r} {l} {s} turn conn q h = goes q.asked h
     goes : (asked : Asked) → Way g r (asked ∷ l) s → Way g r l (Requests.goes_out turn conn q.peer asked s)
     goes (Calls number task lent kind m) k = send_way turn conn m (add_way (record { peer = q.peer; asked = Calls number task lent kind m; stage = Out conn 0 }) (λ n. refl) k)
     goes (LooksUp number task name) k = send_way turn conn _ (add_way (record { peer = q.peer; asked = LooksUp number task name; stage = Out conn 0 }) (λ n. refl) k)
-    goes (Tells call group) k = each_removed {l = l} (Tells call) (Requests.part_goes_out turn conn call) (groups.parts_of 1024 group) (λ m t part j. part_way turn conn call part j) (parts_way call group k)
+    goes (Tells call group) k = each_removed {l = l} (Tells call) (Requests.part_goes_out turn conn call) (groups.parts_of (Requests.most_on s conn) group) (λ m t part j. part_way turn conn call part j) (parts_way (Requests.most_on s conn) (most-some s conn) call group k)
 
-dial_way : {g : Setting} {r : ForeignId} {l : List Asked} {s : State} (peer : Uuid) → Way g r l s → Way g r l (Requests.dial peer s)
+pub dial_way : {g : Setting} {r : ForeignId} {l : List Asked} {s : State} (peer : Uuid) → Way g r l s → Way g r l (Requests.dial peer s)
 unfolding Requests.dial
 dial_way {s = s} peer h = if_way (is_some (connection_to s peer) || state.is_dialling s peer) h (quiet _ refl h)
 
@@ -186,7 +187,7 @@ same-group r b s z = same-then made (pick (Requests.hello_came (connection_to t 
 
     pick : (o : Option ℕ) → SameFor r t.leases (with_some o (Requests.dial b.peer (Requests.add_request q t)) (λ conn. Requests.goes_out (Requests.turn_of b.kind) conn b.peer (Tells (s.groups_made + 1) b) t)).leases
     pick None = subst (SameFor r t.leases) (sym (same-dial b.peer (Requests.add_request q t))) (record { own = refl; held = refl })
-    pick (Some conn) = same-parts r (Requests.turn_of b.kind) conn (s.groups_made + 1) (groups.parts_of 1024 b) t (parts-any r b ∙ z)
+    pick (Some conn) = same-parts r (Requests.turn_of b.kind) conn (s.groups_made + 1) (groups.parts_of (Requests.most_on t conn) b) t (parts-any (Requests.most_on t conn) (most-some t conn) r b ∙ z)
 
 make_group_way : {g : Setting} {r : ForeignId} {l : List Asked} {s : State} (b : Group) → times_named r b ≤ 1 → (1 ≤ times_named r b → (is_among r (held s.leases) ≡ true) × (lease.due (lease_of (own r s.leases)) ≡ Some b.kind)) → Way g r l s → Way g r l (Requests.make_group s b)
 unfolding Requests.make_group

@@ -1,5 +1,5 @@
 -- Frames go out on connections that are open, through every event.
-use mathlib.Core.Path.{sym, subst, ◌∙◌}
+use mathlib.Core.Path.{sym, ap, subst, ◌∙◌}
 use Rattle.std.proofs.Common.{inl, inr}
 use Rattle.std.proofs.lemmas.Bool.{true≢false, eqb-true}
 use Rattle.std.specs.Prelude.{◌≡◌, refl, ℕ, ◌+◌, ◌==◌, not, is_some, Bool, true, false, List, [], ◌∷◌, ◌++◌, Option, None, Some, find, if◌then◌else◌}
@@ -20,7 +20,7 @@ use Rattle.sp_rules.proofs.AllLemmas.{all-weaken, all-more, all-filter, all-firs
 use Rattle.sp_laws.proofs.FlowRules as flow
 use Rattle.sp_laws.specs.Open.{IsOpenAt, GoesWhereOpen, FramesGoWhereOpen}
 use Rattle.sp_laws.specs.Sent.{is_send}
-use Rattle.sp_laws.proofs.FrameFlows.{View, Flows, Begins, EventParts, event_parts, IsFrom, MaySay}
+use Rattle.sp_laws.proofs.FrameFlows.{View, Flows, Begins, EventParts, FrameParts, event_parts, IsFrom, MaySay}
 use Rattle.sp_laws.proofs.FrameEvents.{happen_settles}
 use Rattle.sp_laws.proofs.ShutLemmas.{has_row, row-stays, row-gone, shut_flow}
 
@@ -153,6 +153,8 @@ view g e s = record {
   Fails = λ c. Unit {0};
   Ends = λ a r. Unit {0};
   Starts = λ o n a. Unit {0};
+  Speaks = λ c version. Unit {0};
+  Fits = λ c ids. Unit {0};
   Keeps = λ l t. Placed s e (event_parts t);
 }
 
@@ -196,7 +198,9 @@ placed_flow g e s = record {
   gives = λ p value fuel asked is a b c. tt;
   refuses = λ c n class is. tt;
   finds = λ c n name r is own. tt;
-  quiet = λ l t u eq k. subst (Placed s e) (sym eq) k;
+  speaks = λ l s conn version is k. tt;
+  fits = λ l s conn ids few k. tt;
+  quiet = λ l t u eq k. subst (Placed s e) (sym (ap (λ (p : FrameParts). p.parts) eq)) k;
   says = λ l t output is so k. noted (Says output) (said g e s t output is so) k;
   sends = λ l t turn c m may there held k. noted (Sends turn c m) (row-open s e t.connections c k.rows there) k;
   clears = λ t k. record { rows = k.rows; notes = tt };
@@ -222,6 +226,8 @@ placed_flow g e s = record {
   results_go = λ l t is goes k. others _ refl refl k;
   falls = λ l t c n k. k;
   sent = λ l t c m k. row-set c (λ (d : Connection). record d { sent = m ∷ d.sent }) (λ d. refl) k;
+  versions = λ l t c version speaks k. row-set c (λ (d : Connection). record d { version = version }) (λ d. refl) k;
+  notes_peer = λ l s conn c peer space digest same is higher k. k;
   counts = λ l t c n d there is low k. row-set c (λ (d : Connection). record d { last = n }) (λ d. refl) k;
   parks_call = λ l t p going known is k. others _ refl refl k;
   parks_result = λ l t p known is k. others _ refl refl k;
@@ -233,8 +239,8 @@ placed_flow g e s = record {
 placed-begin : (g : Setting) (e : Event) (s : State) → s.notes ≡ [] → Begins (view g e s) s
 placed-begin g e s none = record {
   opens = λ c dialled is k. record {
-    rows = all-more (Row s e) s.connections (record { number = c; dialled = dialled; peer = None; last = 0; sent = [] }) k.rows (inr (dialled, is));
-    notes = subst (λ ns. AllOf (λ (n : Note). Goes s e (s.connections ++ record { number = c; dialled = dialled; peer = None; last = 0; sent = [] } ∷ []) (output_of n)) ns) (sym none) tt;
+    rows = all-more (Row s e) s.connections (record { number = c; dialled = dialled; peer = None; version = 1; last = 0; sent = [] }) k.rows (inr (dialled, is));
+    notes = subst (λ ns. AllOf (λ (n : Note). Goes s e (s.connections ++ record { number = c; dialled = dialled; peer = None; version = 1; last = 0; sent = [] } ∷ []) (output_of n)) ns) (sym none) tt;
   };
   parks = λ id n t target method arguments is ready stands k. others _ refl refl k;
   looks = λ peer name is k. others _ refl refl k;

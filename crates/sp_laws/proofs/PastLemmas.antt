@@ -120,7 +120,7 @@ past_flow g conn k = record {
 
 past-begin : (g : Setting) (s : State) (conn k : ℕ) (e : Event) → opens conn e ≡ false → Begins g (IsPast conn k) s e
 past-begin g s conn k e old = record {
-  opens = λ c dialled is h. less {conn = conn} {k = k} {l = []} {m = []} {s = s} (omega arith) (ap (limit 1 k) (more-row conn (record { number = c; dialled = dialled; peer = None; last = 0; sent = [] }) (sym (ap (opens conn) is) ∙ old) s.connections)) h;
+  opens = λ c dialled is h. less {conn = conn} {k = k} {l = []} {m = []} {s = s} (omega arith) (ap (limit 1 k) (more-row conn (record { number = c; dialled = dialled; peer = None; version = 1; last = 0; sent = [] }) (sym (ap (opens conn) is) ∙ old) s.connections)) h;
   parks = λ id n t target method arguments is ready stands h. less {conn = conn} {k = k} {l = []} {m = []} {s = s} (
       let a : total (λ (u : Living). from_origin conn k u.origin) (at_first (λ (u : Living). u.id == id) (LivingTasks.waiting n) s.tasks) ≡ total (λ (u : Living). from_origin conn k u.origin) s.tasks = first-same (λ (u : Living). from_origin conn k u.origin) (λ (u : Living). u.id == id) (LivingTasks.waiting n) s.tasks (λ u. refl) in omega arith) refl h;
   looks = λ peer name is h. less {conn = conn} {k = k} {l = []} {m = []} {s = s} (omega arith) refl h;

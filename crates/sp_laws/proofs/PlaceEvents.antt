@@ -39,13 +39,13 @@ use Rattle.sp_rules.specs.Refusals.{first_refusal, checks, refusal}
 use Rattle.sp_rules.specs.Requests
 use Rattle.sp_rules.specs.Space
 use Rattle.sp_rules.specs.State as state
-use Rattle.sp_rules.specs.State.{State, Object, OfRoot, Request, Asked, Calls, LooksUp, Tells, Stage, Waits, Out, Answered, Connection, KeptResult, ReturnedFrame, ParkedFrame, object_at, connection_at, is_open, set_connection, is_to, opening}
+use Rattle.sp_rules.specs.State.{State, Object, OfRoot, Request, Asked, Calls, LooksUp, Tells, Stage, Waits, Out, Answered, Connection, KeptResult, ReturnedFrame, ParkedFrame, object_at, connection_at, is_open, set_connection, is_to, opening, send}
 use Rattle.sp_laws.specs.Answered.{HasTakenNone, IsDialledTo, IsGreeted, StandsOn, GoesTo, CameOn, is_answered_on, answers_of, results_of, AreInPlace, AnswersAreParked}
 use Rattle.sp_laws.specs.Waiting.{count, calls_numbered}
 use Rattle.sp_laws.proofs.InboundLemmas.{counted-row}
 use Rattle.sp_laws.proofs.PlaceLemmas.{both-left, both-right, all-first-found, numbered-all, IsKeptRow, StillThere, still-stands, still-greeted, still-row, still-more, none, total-found, is_answer, is_result, is_at, out-and-answers, answers-made, answers-others}
 use Rattle.sp_laws.proofs.WaitHistories.{waiting_tasks_have_one_call}
-use Rattle.sp_laws.proofs.PlaceRules.{Place, quiet, if_place, some_place, each_place, send_place, hold_place, drop_place, each_with, fewer_place, waiting-open, Going, go_out_going, fresh_place, settle_place, add_task_place, keep_place, reply_to_place, commit_place, park_place, give_back_place, finish_place, call_gone, go_all_place, park_call_place, end_requests_place, end_connection_place, close_place}
+use Rattle.sp_laws.proofs.PlaceRules.{Place, quiet, if_place, some_place, each_place, send_place, hold_place, drop_place, each_with, fewer_place, waiting-open, Going, go_out_going, fresh_place, settle_place, add_task_place, keep_place, reply_to_place, commit_place, park_place, give_back_place, finish_place, call_gone, go_all_place, park_call_place, end_requests_place, end_connection_place, close_place, redial_place}
 
 -- ---- rows of connections
 
@@ -68,18 +68,18 @@ row_place {g} {ps} {s} conn f k u h = record {
 more_place : {g : Setting} {ps : List ParkedFrame} {s : State} (conn : ℕ) (dialled : Option Uuid) → is_open s conn ≡ false → Place g ps s → Place g ps (OwnEvents.add_connection conn dialled s)
 more_place {g} {ps} {s} conn dialled shut h = record {
   parts = record {
-    numbers = numbered-all s.connections (record { number = conn; dialled = dialled; peer = None; last = 0; sent = [] }) h.parts.numbers (none-found (λ (c : Connection). c.number == conn) s.connections (none-of _ shut));
+    numbers = numbered-all s.connections (record { number = conn; dialled = dialled; peer = None; version = 1; last = 0; sent = [] }) h.parts.numbers (none-found (λ (c : Connection). c.number == conn) s.connections (none-of _ shut));
     requests = all-weaken (λ (q : Request). StandsOn s.connections q.peer q.stage × GoesTo q.peer q.asked) _ s.requests (λ q x. (still-stands s.connections _ there q.peer q.stage x.0, x.1)) h.parts.requests;
     fresh = h.parts.fresh;
     parked = all-weaken (CameOn s.connections) _ s.parked (λ q x. still-greeted s.connections _ none there q.conn (not (is_call_frame q.frame)) refl x) h.parts.parked;
     answered = h.parts.answered;
     also = all-weaken (CameOn s.connections) _ ps (λ q x. still-greeted s.connections _ none there q.conn (not (is_call_frame q.frame)) refl x) h.parts.also;
-    unasked = all-more HasTakenNone s.connections (record { number = conn; dialled = dialled; peer = None; last = 0; sent = [] }) h.parts.unasked (λ e. refl);
+    unasked = all-more HasTakenNone s.connections (record { number = conn; dialled = dialled; peer = None; version = 1; last = 0; sent = [] }) h.parts.unasked (λ e. refl);
   };
 }
   where
-    there : StillThere s.connections (s.connections ++ record { number = conn; dialled = dialled; peer = None; last = 0; sent = [] } ∷ []) none
-    there = still-more s.connections (record { number = conn; dialled = dialled; peer = None; last = 0; sent = [] })
+    there : StillThere s.connections (s.connections ++ record { number = conn; dialled = dialled; peer = None; version = 1; last = 0; sent = [] } ∷ []) none
+    there = still-more s.connections (record { number = conn; dialled = dialled; peer = None; version = 1; last = 0; sent = [] })
 
 -- ---- frames that come
 
@@ -109,15 +109,28 @@ flush_place {g} {s} space peer c is e h = (each_with (Going g [] c.number peer) 
     goes : (t : State) (r : Request) → r.peer ≡ peer → GoesTo r.peer r.asked → Going g [] c.number peer t → Going g [] c.number peer (Requests.go_out Waited c.number r t)
     goes t r same to k = subst (λ p. Going g [] c.number p (Requests.go_out Waited c.number r t)) same (go_out_going Waited r to (subst (λ p. Going g [] c.number p t) (sym same) k))
 
-first_place : {g : Setting} {s : State} (c : Connection) (m : Message) → connection_at s c.number ≡ Some c → Place g [] s → Place g [] (Frames.first_frame g c m s)
-unfolding Frames.first_frame
-first_place {g} {s} c (message.Hello version space digest) is h = pick c.dialled refl
+versions : (version : ℕ) → IsKeptRow (λ (c : Connection). record c { version = version })
+versions version = record { number = λ c. refl; dialled = λ c. refl; greeted = λ c e. e }
+
+say_hello_place : {g : Setting} {s : State} (version conn : ℕ) → Place g [] s → Place g [] (Frames.say_hello g version conn s)
+say_hello_place {g} {s} version conn h = said (send Rattle.sp_rules.specs.Events.Hellos conn (message.Hello version g.id g.digest) s) (send_place Rattle.sp_rules.specs.Events.Hellos conn (message.Hello version g.id g.digest) h)
   where
-    pick : (o : Option Uuid) → c.dialled ≡ o → Place g [] (with_some o (if bytes_eq digest g.digest then Frames.greeted space c.number s else Endings.close g g.classes.unmarshal c.number s)
-        (λ peer. if bytes_eq digest g.digest && bytes_eq space peer then Requests.flush_waiting peer c.number (Frames.greeted space c.number s) else Endings.close g g.classes.connect c.number s))
-    pick None e = if_place (bytes_eq digest g.digest) (greeted_place space c.number h) (close_place _ c.number h)
-    pick (Some peer) e = if_place (bytes_eq digest g.digest && bytes_eq space peer) (flush_place space peer c is e h) (close_place _ c.number h)
-first_place c _ is h = close_place _ c.number h
+    said : (t : State) → Place g [] t → Place g [] (Frames.of_version version conn t)
+    said t k = row_place conn _ (versions version) (all-first HasTakenNone (λ (d : Connection). d.number == conn) (λ (d : Connection). record d { version = version }) t.connections (λ d x e. x e) k.parts.unasked) k
+
+first_place : {g : Setting} {s : State} (c : Connection) (m : Message) → connection_at s c.number ≡ Some c → is_none c.peer ≡ true → Place g [] s → Place g [] (Frames.first_frame g c m s)
+unfolding Frames.first_frame
+first_place {g} {s} c (message.Hello version space digest) is none h = pick c.dialled refl
+  where
+    pick : (o : Option Uuid) → c.dialled ≡ o
+        → Place g [] (with_some o (if bytes_eq digest g.digest && nat_le version g.version then Frames.answer_hello g version c.number (Frames.greeted space c.number s) else Endings.close g g.classes.unmarshal c.number s)
+        (λ peer. if bytes_eq digest g.digest && bytes_eq space peer then Frames.answered_hello g c peer version space s else Endings.close g g.classes.connect c.number s))
+    pick None e = if_place (bytes_eq digest g.digest && nat_le version g.version)
+        (if_place (nat_le 2 g.version) (say_hello_place _ c.number (greeted_place space c.number h)) (greeted_place space c.number h)) (close_place _ c.number h)
+    pick (Some peer) e = if_place (bytes_eq digest g.digest && bytes_eq space peer)
+        (if_place (version == c.version) (flush_place space peer c is e h) (if_place (nat_le 2 c.version && version == 1) (redial_place peer c.number c is none h) (close_place _ c.number h)))
+        (close_place _ c.number h)
+first_place c _ is none h = close_place _ c.number h
 
 -- a call is taken on a connection on which somebody asks
 counted_place : {g : Setting} {s : State} (conn number : ℕ) → IsGreeted s.connections conn false → Place g [] s → Place g [] (Frames.counted conn number s)
@@ -256,9 +269,9 @@ got_place c (message.Returned number fuel value) once is spoke way h = answered_
 got_place {g} c (message.Threw number class) once is spoke way h = answered_by_place c number _ (λ q asked. ends_as_place c number (λ a. Frames.thrown_reply g class) q once asked h) h
 got_place {g} c (message.Spent number) once is spoke way h = answered_by_place c number _ (λ q asked. ends_as_place c number (Frames.spent_reply g) q once asked h) h
 got_place c (message.Ack number) once is spoke way h = got_ack_place c number h
-got_place c (message.Dirty sequence period objects) once is spoke way h = send_place _ c.number _ (quiet _ refl h)
+got_place c (message.Dirty sequence period objects) once is spoke way h = if_place (Frames.fit_frame c objects) (send_place _ c.number _ (quiet _ refl h)) (close_place _ c.number h)
 got_place c (message.Lease sequence period) once is spoke way h = told_by_place c true sequence _ h
-got_place c (message.Clean sequence strong objects) once is spoke way h = send_place _ c.number _ (quiet _ refl h)
+got_place c (message.Clean sequence strong objects) once is spoke way h = if_place (Frames.fit_frame c objects) (send_place _ c.number _ (quiet _ refl h)) (close_place _ c.number h)
 got_place c (message.Cleaned sequence) once is spoke way h = told_by_place c false sequence _ h
 got_place c (message.Lookup number name) once is spoke way h = got_lookup_place c number name (record { row = c; found = is; end = way; greeted = spoke }) h
 
@@ -279,7 +292,7 @@ received_place {g} {s} conn (Some c) m once e h = first (is_none c.peer) refl
     way f false w = got_place c m once is (spoke c.peer f) w h
 
     first : (b : Bool) → is_none c.peer ≡ b → Place g [] (if b then Frames.first_frame g c m s else (if Frames.is_wrong_way (Frames.is_asking m) (is_some c.dialled) then Endings.close g g.classes.unmarshal c.number s else Frames.got g c m s))
-    first true f = first_place c m is h
+    first true f = first_place c m is f h
     first false f = way f _ refl
 
 -- ---- own events
@@ -307,8 +320,8 @@ lookup_place {s = s} peer name h = if_place (is_name name) (fresh_place {s = s} 
 
 opened_place : {g : Setting} {s : State} (conn : ℕ) (dialled : Option Uuid) → is_open s conn ≡ false → Place g [] s → Place g [] (OwnEvents.on_opened g conn dialled s)
 unfolding OwnEvents.on_opened
-opened_place conn None shut h = send_place _ conn _ (more_place conn None shut h)
-opened_place conn (Some peer) shut h = send_place _ conn _ (quiet _ refl (more_place conn (Some peer) shut h))
+opened_place {g} conn None shut h = if_place (nat_le 2 g.version) (more_place conn None shut h) (say_hello_place 1 conn (more_place conn None shut h))
+opened_place {g} {s} conn (Some peer) shut h = say_hello_place {s = OwnEvents.dialled_no_more (Some peer) (OwnEvents.add_connection conn (Some peer) s)} _ conn (quiet _ refl (more_place conn (Some peer) shut h))
 
 refused_place : {g : Setting} {s : State} (peer : Uuid) → Place g [] s → Place g [] (OwnEvents.on_refused g peer s)
 unfolding OwnEvents.on_refused

@@ -216,9 +216,9 @@ go_out_going {g} {ps} {conn} {s} turn r to k = goes r.asked to
     goes : (asked : Asked) → GoesTo r.peer asked → Going g ps conn r.peer (Requests.goes_out turn conn r.peer asked s)
     goes (Calls number task lent kind m) e = sent_going turn m _ (add_place _ (k.dialled, tt) (λ c. refl) k.place) k.dialled
     goes (LooksUp number task name) e = sent_going turn _ _ (add_place _ (k.dialled, tt) (λ c. refl) k.place) k.dialled
-    goes (Tells call group) e = each_with (Going g ps conn r.peer) (λ (part : Group). part.peer ≡ group.peer) (Requests.part_goes_out turn conn call) (groups.parts_of 1024 group) (own-parts group _) (λ t part f j. part_going turn call part (f ∙ e) j) k
+    goes (Tells call group) e = each_with (Going g ps conn r.peer) (λ (part : Group). part.peer ≡ group.peer) (Requests.part_goes_out turn conn call) (groups.parts_of (Requests.most_on s conn) group) (own-parts group _) (λ t part f j. part_going turn call part (f ∙ e) j) k
 
-dial_place : {g : Setting} {ps : List ParkedFrame} {s : State} (peer : Uuid) → Place g ps s → Place g ps (Requests.dial peer s)
+pub dial_place : {g : Setting} {ps : List ParkedFrame} {s : State} (peer : Uuid) → Place g ps s → Place g ps (Requests.dial peer s)
 unfolding Requests.dial
 dial_place {s = s} peer h = if_place (is_some (connection_to s peer) || state.is_dialling s peer) h (quiet _ refl h)
 
@@ -590,11 +590,16 @@ self-left conn (x ∷ ps) = (
 not-open : (cs : List Connection) (conn : ℕ) (c : Connection) → numbered cs conn ≡ None → numbered cs conn ≡ Some c → ⊥
 not-open cs conn c e f = some-none c (sym f ∙ e)
 
-shut_place : {g : Setting} (s t : State) (conn : ℕ) (c : Connection) → connection_at s conn ≡ Some c → Place g [] s → Unparks s conn [] t → Place g [] (ParkedFrames.remove_requests (Endings.is_of_connection conn c.dialled) t)
-shut_place {g} s t conn c is h u = record { parts = subst (InPlace []) (sym (ap (λ (x : PlaceParts). record x { requests = filter (λ q. not (Endings.is_of_connection conn c.dialled q)) x.requests }) u.same)) placed }
+-- Requests that go with a connection: all that went out on it, and of those that are answered no other.
+record GoWith (s : State) (conn : ℕ) (go : Request → Bool) : Type 0 where
+  out : (q : Request) (n : ℕ) → is_out_on conn q.stage ≡ (n == conn) → IsDialledTo s.connections n q.peer → not (go q) ≡ true → (conn == n) ≡ false
+  only : (n : ℕ) (q : Request) → (conn == n) ≡ false → go q ≡ true → is_answered_on n q.stage ≡ true → ⊥
+
+shut_place : {g : Setting} (s t : State) (conn : ℕ) (go : Request → Bool) → GoWith s conn go → Place g [] s → Unparks s conn [] t → Place g [] (ParkedFrames.remove_requests go t)
+shut_place {g} s t conn go W h u = record { parts = subst (InPlace []) (sym (ap (λ (x : PlaceParts). record x { requests = filter (λ q. not (go q)) x.requests }) u.same)) placed }
   where
     keeps : Request → Bool
-    keeps q = not (Endings.is_of_connection conn c.dialled q)
+    keeps q = not (go q)
 
     there : StillThere s.connections (less conn s.connections) (λ n. conn == n)
     there = still-less conn s.connections
@@ -602,22 +607,10 @@ shut_place {g} s t conn c is h u = record { parts = subst (InPlace []) (sym (ap 
     closed : numbered (less conn s.connections) conn ≡ None
     closed = closed-row conn s.connections
 
-    -- a request that stays went on another connection
-    elsewhere : (q : Request) (n : ℕ) → is_out_on conn q.stage ≡ (n == conn) → IsDialledTo s.connections n q.peer → keeps q ≡ true → (conn == n) ≡ false
-    elsewhere q n out d stays = pick (conn == n) refl
-      where
-        dialled : conn ≡ n → (o : Option Uuid) → c.dialled ≡ o → ⊥
-        dialled e None f = true≢false (sym d.dialled ∙ ap (is_to q.peer) (ap (λ (x : Connection). x.dialled) (some-same (sym d.found ∙ subst (λ m. numbered s.connections m ≡ Some c) e is)) ∙ f))
-        dialled e (Some p) f = true≢false (sym (or-left (is_out_on conn q.stage) _ (out ∙ eq-eqb n conn (sym e))) ∙ sym (ap (λ o. Endings.is_of_connection conn o q) f) ∙ is-not _ stays)
-
-        pick : (b : Bool) → (conn == n) ≡ b → b ≡ false
-        pick true e = absurd (dialled (eqb-true conn n e) c.dialled refl)
-        pick false e = refl
-
     stands : (q : Request) (stage : Stage) → q.stage ≡ stage → StandsOn s.connections q.peer stage → keeps q ≡ true → StandsOn (less conn s.connections) q.peer stage
     stands q Waits e d stays = tt
-    stands q (Out n sequence) e d stays = still-dialled s.connections (less conn s.connections) (λ m. conn == m) there n q.peer (elsewhere q n (ap (is_out_on conn) e) d stays) d
-    stands q (Answered n) e d stays = still-dialled s.connections (less conn s.connections) (λ m. conn == m) there n q.peer (elsewhere q n (ap (is_out_on conn) e) d stays) d
+    stands q (Out n sequence) e d stays = still-dialled s.connections (less conn s.connections) (λ m. conn == m) there n q.peer (W.out q n (ap (is_out_on conn) e) d stays) d
+    stands q (Answered n) e d stays = still-dialled s.connections (less conn s.connections) (λ m. conn == m) there n q.peer (W.out q n (ap (is_out_on conn) e) d stays) d
 
     requests : AllOf (λ (q : Request). StandsOn (less conn s.connections) q.peer q.stage × GoesTo q.peer q.asked) (filter keeps s.requests)
     requests = all-weaken (λ (q : Request). (StandsOn s.connections q.peer q.stage × GoesTo q.peer q.asked) × (keeps q ≡ true)) _ _ (λ q x. (stands q q.stage refl x.0.0 x.1, x.0.1)) (all-both-filter (λ (q : Request). StandsOn s.connections q.peer q.stage × GoesTo q.peer q.asked) keeps s.requests h.parts.requests)
@@ -647,32 +640,12 @@ shut_place {g} s t conn c is h u = record { parts = subst (InPlace []) (sym (ap 
         (λ q x. count-false (is_result conn k q) (λ a. not-open (less conn s.connections) conn x.row closed (subst (λ m. numbered (less conn s.connections) m ≡ Some x.row) (eqb-true q.conn conn (both-left (q.conn == conn) _ (both-right (not (is_call_frame q.frame)) _ a))) x.found))) parked)
 
     -- what goes was answered on no other connection
-    other-answers : (n k : ℕ) → (conn == n) ≡ false → (q : Request) → Endings.is_of_connection conn c.dialled q ≡ true → count (is_answer n k q) ≡ 0
-    other-answers n k apart-from q goes = count-false (is_answer n k q) (λ a. at q.stage refl (both-left (is_answered_on n q.stage) _ a) c.dialled goes)
-      where
-        at : (stage : Stage) → q.stage ≡ stage → is_answered_on n stage ≡ true → (o : Option Uuid) → Endings.is_of_connection conn o q ≡ true → ⊥
-        at Waits e a o f = true≢false (sym a)
-        at (Out m sequence) e a o f = true≢false (sym a)
-        at (Answered m) e a None f = true≢false (sym f)
-        at (Answered m) e a (Some p) f = not-same conn n apart-from (sym (eqb-true m conn out) ∙ eqb-true m n a)
-          where
-            waits-no : Requests.waits_for p q ≡ false
-            waits-no = ap (λ y. bytes_eq q.peer p && Requests.is_waiting y) e ∙ and-false (bytes_eq q.peer p)
-              where
-                and-false : (b : Bool) → b && false ≡ false
-                and-false true = refl
-                and-false false = refl
-
-            out : (m == conn) ≡ true
-            out = sym (ap (is_out_on conn) e) ∙ first (is_out_on conn q.stage) (Requests.waits_for p q) waits-no f
-              where
-                first : (x y : Bool) → y ≡ false → x || y ≡ true → x ≡ true
-                first true y z g = refl
-                first false y z g = absurd (true≢false (sym g ∙ z))
+    other-answers : (n k : ℕ) → (conn == n) ≡ false → (q : Request) → go q ≡ true → count (is_answer n k q) ≡ 0
+    other-answers n k apart-from q goes = count-false (is_answer n k q) (λ a. W.only n q apart-from goes (both-left (is_answered_on n q.stage) _ a))
 
     matched : (n k : ℕ) (b : Bool) → (conn == n) ≡ b → answers_of n k (filter keeps s.requests) ≡ results_of n k t.parked
     matched n k true e = subst (λ m. answers_of m k (filter keeps s.requests) ≡ results_of m k t.parked) (eqb-true conn n e) (no-answers k ∙ sym (no-results k))
-    matched n k false e = total-kept (λ (q : Request). count (is_answer n k q)) (Endings.is_of_connection conn c.dialled) s.requests (other-answers n k e) ∙ h.parts.answered n k ∙ sym (u.others n k e)
+    matched n k false e = total-kept (λ (q : Request). count (is_answer n k q)) go s.requests (other-answers n k e) ∙ h.parts.answered n k ∙ sym (u.others n k e)
 
     placed : InPlace [] (record { requests = filter keeps s.requests; fresh = s.fresh; connections = less conn s.connections; parked = t.parked })
     placed = record {
@@ -685,11 +658,82 @@ shut_place {g} s t conn c is h u = record { parts = subst (InPlace []) (sym (ap 
       unasked = all-filter HasTakenNone (λ (d : Connection). not (d.number == conn)) s.connections h.parts.unasked;
     }
 
+-- all that was asked of the peer of a connection that was dialled goes with it
+ends-with : (s : State) (conn : ℕ) (c : Connection) → connection_at s conn ≡ Some c → GoWith s conn (Endings.is_of_connection conn c.dialled)
+ends-with s conn c is = record { out = elsewhere; only = λ n q apart goes a. at n q apart q.stage refl a c.dialled goes }
+  where
+    -- a request that stays went on another connection
+    elsewhere : (q : Request) (n : ℕ) → is_out_on conn q.stage ≡ (n == conn) → IsDialledTo s.connections n q.peer → not (Endings.is_of_connection conn c.dialled q) ≡ true → (conn == n) ≡ false
+    elsewhere q n out d stays = pick (conn == n) refl
+      where
+        dialled : conn ≡ n → (o : Option Uuid) → c.dialled ≡ o → ⊥
+        dialled e None f = true≢false (sym d.dialled ∙ ap (is_to q.peer) (ap (λ (x : Connection). x.dialled) (some-same (sym d.found ∙ subst (λ m. numbered s.connections m ≡ Some c) e is)) ∙ f))
+        dialled e (Some p) f = true≢false (sym (or-left (is_out_on conn q.stage) _ (out ∙ eq-eqb n conn (sym e))) ∙ sym (ap (λ o. Endings.is_of_connection conn o q) f) ∙ is-not _ stays)
+
+        pick : (b : Bool) → (conn == n) ≡ b → b ≡ false
+        pick true e = absurd (dialled (eqb-true conn n e) c.dialled refl)
+        pick false e = refl
+
+    at : (n : ℕ) (q : Request) → (conn == n) ≡ false → (stage : Stage) → q.stage ≡ stage → is_answered_on n stage ≡ true → (o : Option Uuid) → Endings.is_of_connection conn o q ≡ true → ⊥
+    at n q apart-from Waits e a o f = true≢false (sym a)
+    at n q apart-from (Out m sequence) e a o f = true≢false (sym a)
+    at n q apart-from (Answered m) e a None f = true≢false (sym f)
+    at n q apart-from (Answered m) e a (Some p) f = not-same conn n apart-from (sym (eqb-true m conn out) ∙ eqb-true m n a)
+      where
+        waits-no : Requests.waits_for p q ≡ false
+        waits-no = ap (λ y. bytes_eq q.peer p && Requests.is_waiting y) e ∙ and-false (bytes_eq q.peer p)
+          where
+            and-false : (b : Bool) → b && false ≡ false
+            and-false true = refl
+            and-false false = refl
+
+        out : (m == conn) ≡ true
+        out = sym (ap (is_out_on conn) e) ∙ first (is_out_on conn q.stage) (Requests.waits_for p q) waits-no f
+          where
+            first : (x y : Bool) → y ≡ false → x || y ≡ true → x ≡ true
+            first true y z g = refl
+            first false y z g = absurd (true≢false (sym g ∙ z))
+
+-- what was parked of a connection goes with it
+goes-unparked : {g : Setting} {s : State} (conn : ℕ) → Place g [] s → Unparks s conn [] (Endings.let_connection_go conn s)
+goes-unparked {g} {s} conn h =
+    unparks-all s conn (filter (λ (p : ParkedFrame). p.conn == conn) s.parked) (Endings.without_connection conn s) (all-weaken (λ (p : ParkedFrame). CameOn s.connections p × ((p.conn == conn) ≡ true)) _ _ (λ p x. x.1) (all-both-filter (CameOn s.connections) (λ (p : ParkedFrame). p.conn == conn) s.parked h.parts.parked))
+    (record { same = refl; came = h.parts.parked; left = self-left conn s.parked; others = λ c k apart. refl })
+
+-- On a connection whose Hello has not come nothing is out.
+leaves-none : (s : State) (conn : ℕ) (c : Connection) → connection_at s conn ≡ Some c → is_none c.peer ≡ true → GoWith s conn (λ q. false)
+leaves-none s conn c is none = record { out = elsewhere; only = λ n q apart goes a. true≢false (sym goes) }
+  where
+    elsewhere : (q : Request) (n : ℕ) → is_out_on conn q.stage ≡ (n == conn) → IsDialledTo s.connections n q.peer → not false ≡ true → (conn == n) ≡ false
+    elsewhere q n out d stays = pick (conn == n) refl
+      where
+        spoke : (o : Option Uuid) → is_none o ≡ true → is_some o ≡ true → ⊥
+        spoke None e f = true≢false (sym f)
+        spoke (Some p) e f = true≢false (sym e)
+
+        pick : (b : Bool) → (conn == n) ≡ b → b ≡ false
+        pick true e = absurd (spoke c.peer none (subst (λ (x : Connection). is_some x.peer ≡ true) (some-same (sym d.found ∙ subst (λ m. numbered s.connections m ≡ Some c) (eqb-true conn n e) is)) d.greeted))
+        pick false e = refl
+
+filter-whole : (rs : List Request) → filter (λ (q : Request). not false) rs ≡ rs
+filter-whole [] = refl
+filter-whole (q ∷ rs) = ap (λ l. q ∷ l) (filter-whole rs)
+
+-- so it goes alone
+let_connection_go_place : {g : Setting} {s : State} (conn : ℕ) (c : Connection) → connection_at s conn ≡ Some c → is_none c.peer ≡ true → Place g [] s → Place g [] (Endings.let_connection_go conn s)
+let_connection_go_place {g} {s} conn c is none h = record {
+  parts = subst (λ rs. InPlace [] (record (place_parts (Endings.let_connection_go conn s)) { requests = rs })) (filter-whole (Endings.let_connection_go conn s).requests)
+      (shut_place s (Endings.let_connection_go conn s) conn (λ q. false) (leaves-none s conn c is none) h (goes-unparked conn h)).parts;
+}
+
+pub redial_place : {g : Setting} {s : State} (peer : Uuid) (conn : ℕ) (c : Connection) → connection_at s conn ≡ Some c → is_none c.peer ≡ true → Place g [] s → Place g [] (Endings.redial peer conn s)
+unfolding Endings.redial
+redial_place {g} {s} peer conn c is none h = dial_place peer (quiet _ refl (let_connection_go_place {s = Endings.note_peer peer s} conn c is none (quiet _ refl h)))
+
 pub end_connection_place : {g : Setting} {s : State} (why : Asked → ClassId) (conn : ℕ) → Place g [] s → Place g [] (Endings.end_connection g why conn s)
 unfolding Endings.end_connection
-end_connection_place {g} {s} why conn h = some_place (connection_at s conn) _ h (λ c is. end_requests_place _ (Endings.is_of_connection conn c.dialled) why (shut_place s _ conn c is h
-    (unparks-all s conn (filter (λ (p : ParkedFrame). p.conn == conn) s.parked) (Endings.without_connection conn s) (all-weaken (λ (p : ParkedFrame). CameOn s.connections p × ((p.conn == conn) ≡ true)) _ _ (λ p x. x.1) (all-both-filter (CameOn s.connections) (λ (p : ParkedFrame). p.conn == conn) s.parked h.parts.parked))
-    (record { same = refl; came = h.parts.parked; left = self-left conn s.parked; others = λ c k apart. refl }))))
+end_connection_place {g} {s} why conn h = some_place (connection_at s conn) _ h (λ c is. end_requests_place _ (Endings.is_of_connection conn c.dialled) why
+    (shut_place s (Endings.let_connection_go conn s) conn (Endings.is_of_connection conn c.dialled) (ends-with s conn c is) h (goes-unparked conn h)))
 
 pub close_place : {g : Setting} {s : State} (class : ClassId) (conn : ℕ) → Place g [] s → Place g [] (Endings.close g class conn s)
 unfolding Endings.close

@@ -1,14 +1,17 @@
 -- A connection that is not open stays so through every event that does not open it, and one that ends is not open.
 use mathlib.Core.Path.{sym, ap, subst, ◌∙◌}
 use Rattle.std.proofs.lemmas.Bool.{true≢false, eqb-true}
-use Rattle.std.specs.Prelude.{◌≡◌, refl, ℕ, ◌==◌, not, cond, is_some, Bool, true, false, List, [], ◌∷◌, ◌++◌, Option, None, Some, filter, find, if◌then◌else◌}
+use Rattle.std.specs.Prelude.{◌≡◌, refl, ℕ, ◌==◌, ◌||◌, not, cond, is_some, Bool, true, false, List, [], ◌∷◌, ◌++◌, Option, None, Some, filter, find, if◌then◌else◌}
+use Rattle.uuid.specs.declared.Uuid.{Uuid}
 use Rattle.space_ids.specs.declared.ids.ClassId.{ClassId}
 use Rattle.sp_rules.specs.Classes.{Setting}
 use Rattle.sp_rules.specs.Endings
-use Rattle.sp_rules.specs.Events.{Event, Closed, ReadFailed, Bad, WriteFailed}
+use Rattle.sp_rules.specs.Events.{Event, Closed, ReadFailed, Bad, WriteFailed, Dial, Close}
 use Rattle.sp_rules.specs.Lists.{each, with_some, at_first}
+use Rattle.sp_rules.specs.Requests
 use Rattle.sp_rules.specs.Space
-use Rattle.sp_rules.specs.State.{State, Connection, ParkedFrame, Asked, connection_at, is_open}
+use Rattle.sp_rules.specs.State as state
+use Rattle.sp_rules.specs.State.{State, Connection, ParkedFrame, Asked, connection_at, connection_to, is_open, say}
 use Rattle.sp_laws.specs.Inbound.{opens}
 use Rattle.sp_laws.proofs.FlowRules.{Flows, Begins, FlowParts, Owed, each_flow, end_requests_flow, finish_event_flow, let_go_flow, on_flow}
 use Rattle.sp_laws.specs.Open.{ends_on, ConnectionsEnd}
@@ -95,6 +98,22 @@ shut_flow g conn = record {
   closes = λ l s n k. row-gone conn (λ (d : Connection). not (d.number == n)) s.connections k;
 }
 
+-- a connection that goes
+pub connection-goes : (g : Setting) (conn : ℕ) (s : State) → is_open (Endings.let_connection_go conn s) conn ≡ false
+connection-goes g conn s = each_flow (shut_flow g conn) {l = []} Endings.unpark (filter (λ (p : ParkedFrame). p.conn == conn) s.parked) (λ t p k. let_go_flow (shut_flow g conn) {l = []} p t.parked k) (row-ends conn s.connections)
+
+-- a connection on whose peer this space gives up, to dial it again
+pub redial-shuts : (g : Setting) (peer : Uuid) (conn : ℕ) (s : State) → is_open (Endings.redial peer conn s) conn ≡ false
+unfolding Endings.redial Requests.dial
+redial-shuts g peer conn s = pick (is_some (connection_to closed peer) || state.is_dialling closed peer)
+  where
+    closed : State
+    closed = say (Close conn) (Endings.let_connection_go conn (Endings.note_peer peer s))
+
+    pick : (b : Bool) → is_open (if b then closed else say (Dial peer) (record closed { dialling = closed.dialling ++ peer ∷ [] })) conn ≡ false
+    pick true = connection-goes g conn (Endings.note_peer peer s)
+    pick false = connection-goes g conn (Endings.note_peer peer s)
+
 -- an end of a connection
 pub connection-ends : (g : Setting) (why : Asked → ClassId) (conn : ℕ) (s : State) → is_open (Endings.end_connection g why conn s) conn ≡ false
 unfolding Endings.end_connection
@@ -103,15 +122,14 @@ connection-ends g why conn s = by (connection_at s conn) refl
     by : (o : Option Connection) → connection_at s conn ≡ o
         → is_open (with_some o s (λ c. Endings.end_requests g (Endings.is_of_connection conn c.dialled) why (each Endings.unpark (filter (λ (p : ParkedFrame). p.conn == conn) s.parked) (Endings.without_connection conn s)))) conn ≡ false
     by None e = ap (λ (o : Option Connection). is_some o) e
-    by (Some c) e = end_requests_flow (shut_flow g conn) {l = []} (Endings.is_of_connection conn c.dialled) why
-        (each_flow (shut_flow g conn) {l = []} Endings.unpark (filter (λ (p : ParkedFrame). p.conn == conn) s.parked) (λ t p k. let_go_flow (shut_flow g conn) {l = []} p t.parked k) (row-ends conn s.connections))
+    by (Some c) e = end_requests_flow (shut_flow g conn) {l = []} (Endings.is_of_connection conn c.dialled) why (connection-goes g conn s)
 
 abbrev Begun : Setting → ℕ → State → Event → Type 0
 Begun g conn s e = Begins g (Shut conn) s e
 
 shut-begin : (g : Setting) (conn : ℕ) (s : State) (e : Event) → opens conn e ≡ false → Begun g conn s e
 shut-begin g conn s e apart = record {
-  opens = λ n dialled is k. row-comes conn s.connections (record { number = n; dialled = dialled; peer = None; last = 0; sent = [] }) (subst (λ d. opens conn d ≡ false) is apart) k;
+  opens = λ n dialled is k. row-comes conn s.connections (record { number = n; dialled = dialled; peer = None; version = 1; last = 0; sent = [] }) (subst (λ d. opens conn d ≡ false) is apart) k;
   parks = λ id k t target method arguments is ready stands h. h;
   looks = λ peer name is h. h;
 }

@@ -3,9 +3,11 @@ use mathlib.Core.Path.{sym, ap, subst, ◌∙◌}
 use Rattle.std.proofs.lemmas.Bool.{true≢false, eqb-true}
 use Rattle.std.specs.Prelude.{◌≡◌, refl, ℕ, ◌==◌, not, is_some, Bool, true, false, List, [], ◌∷◌, ◌++◌, Option, None, Some, filter}
 use Rattle.net_message.specs.declared.message.Message.TheVariants as message
+use Rattle.net_message.specs.declared.message.Message.{Message}
+use Rattle.uuid.specs.declared.Uuid.{Uuid}
 use Rattle.sp_rules.specs.Classes.{Setting}
 use Rattle.sp_rules.specs.Endings
-use Rattle.sp_rules.specs.Events.{Event, Closed, ReadFailed, Bad, WriteFailed, Output, Started, Ended, Withdrawn, Denied, Send, Dial, Close, Ready, Note, Says, Sends, output_of, in_order, ranks}
+use Rattle.sp_rules.specs.Events.{Event, Received, Closed, ReadFailed, Bad, WriteFailed, Output, Started, Ended, Withdrawn, Denied, Send, Dial, Close, Ready, Note, Says, Sends, output_of, in_order, ranks}
 use Rattle.sp_rules.specs.Laws.{AllOf}
 use Rattle.sp_rules.specs.Lists.{each, with_some}
 use Rattle.sp_rules.specs.LivingTasks
@@ -17,8 +19,8 @@ use Rattle.sp_rules.proofs.AllLemmas.{all-more, ranks-all}
 use Rattle.sp_laws.specs.Inbound.{opens}
 use Rattle.sp_laws.specs.Open.{ends_on, is_sent_on, IsSilent, EndedConnectionsAreSilent}
 use Rattle.sp_laws.specs.Sent.{is_send}
-use Rattle.sp_laws.proofs.FrameFlows.{View, Flows, Begins, EventParts, event_parts, IsFrom, is_ending, each_flow, let_go_flow}
-use Rattle.sp_laws.proofs.FrameSteps.{settle_flow, end_requests_flow}
+use Rattle.sp_laws.proofs.FrameFlows.{View, Flows, Begins, EventParts, FrameParts, event_parts, IsFrom, is_ending, each_flow, let_go_flow}
+use Rattle.sp_laws.proofs.FrameSteps.{settle_flow, dial_flow, end_requests_flow}
 use Rattle.sp_laws.proofs.FrameEvents.{happen_settles}
 use Rattle.sp_laws.proofs.OpenLemmas.{nothing-noted, all-unit, all-dialled}
 use Rattle.sp_laws.proofs.ShutLemmas.{has_row, row-stays, row-gone, row-ends, row-comes}
@@ -71,6 +73,8 @@ view g e conn = record {
   Fails = λ c. Unit {0};
   Ends = λ a r. Unit {0};
   Starts = λ o n a. Unit {0};
+  Speaks = λ c version. Unit {0};
+  Fits = λ c ids. Unit {0};
   Keeps = λ l t. Quiet conn (event_parts t);
 }
 
@@ -93,7 +97,9 @@ quiet_flow g e conn = record {
   gives = λ p value fuel asked is a b c. tt;
   refuses = λ c n class is. tt;
   finds = λ c n name r is own. tt;
-  quiet = λ l t u eq k. subst (Quiet conn) (sym eq) k;
+  speaks = λ l s conn version is k. tt;
+  fits = λ l s conn ids few k. tt;
+  quiet = λ l t u eq k. subst (Quiet conn) (sym (ap (λ (p : FrameParts). p.parts) eq)) k;
   says = λ l t output is so k. noted (Says output) (said conn output is) k;
   sends = λ l t turn c m may there held k. noted (Sends turn c m) (elsewhere conn c t.connections k.shut there) k;
   clears = λ t k. record { shut = k.shut; notes = tt };
@@ -119,6 +125,8 @@ quiet_flow g e conn = record {
   results_go = λ l t is goes k. others _ refl refl k;
   falls = λ l t c n k. k;
   sent = λ l t c m k. rows-now _ (row-stays conn c (λ (d : Connection). record d { sent = m ∷ d.sent }) (λ d. refl) t.connections k.shut) k;
+  versions = λ l t c version speaks k. rows-now _ (row-stays conn c (λ (d : Connection). record d { version = version }) (λ d. refl) t.connections k.shut) k;
+  notes_peer = λ l s conn c peer space digest same is higher k. k;
   counts = λ l t c n d there is low k. rows-now _ (row-stays conn c (λ (d : Connection). record d { last = n }) (λ d. refl) t.connections k.shut) k;
   parks_call = λ l t p going known is k. others _ refl refl k;
   parks_result = λ l t p known is k. others _ refl refl k;
@@ -129,7 +137,7 @@ quiet_flow g e conn = record {
 
 quiet-begin : (g : Setting) (e : Event) (conn : ℕ) (s : State) → opens conn e ≡ false → Begins (view g e conn) s
 quiet-begin g e conn s apart = record {
-  opens = λ c dialled is k. rows-now _ (row-comes conn s.connections (record { number = c; dialled = dialled; peer = None; last = 0; sent = [] }) (subst (λ d. opens conn d ≡ false) is apart) k.shut) k;
+  opens = λ c dialled is k. rows-now _ (row-comes conn s.connections (record { number = c; dialled = dialled; peer = None; version = 1; last = 0; sent = [] }) (subst (λ d. opens conn d ≡ false) is apart) k.shut) k;
   parks = λ id n t target method arguments is ready stands k. others _ refl refl k;
   looks = λ peer name is k. others _ refl refl k;
   greets = λ c version space digest is row ungreeted same who k. (rows-now _ (row-stays conn c.number (λ (d : Connection). record d { peer = Some space }) (λ d. refl) s.connections k.shut) k, tt);
@@ -172,6 +180,24 @@ ended-there g e going why conn s none = by (connection_at s conn) refl
     by (Some c) f = end_requests_flow (quiet_flow g e conn) {l = []} (Endings.is_of_connection conn c.dialled) why going tt (λ asked. tt)
         (each_flow (quiet_flow g e conn) {l = []} Endings.unpark (filter (λ (p : ParkedFrame). p.conn == conn) s.parked) (λ t p k. let_go_flow (quiet_flow g e conn) {l = []} p t.parked (others _ refl refl k))
         (start conn (Endings.without_connection conn s) none (row-ends conn s.connections)))
+
+-- a frame that closes its connection
+pub closes_silent : (g : Setting) (m : Message) (class : ClassId) (conn : ℕ) (s : State) → s.notes ≡ [] → IsSilent conn (Space.finish_event true (Endings.close g class conn s)).1
+unfolding Endings.close
+closes_silent g m class conn s none = ordered conn (Requests.settle (Endings.close g class conn s))
+    (settle_flow (quiet_flow g (Received conn m) conn) (noted (Says (Close conn)) refl (ended-there g (Received conn m) refl (λ asked. class) conn s none)))
+
+-- one on which the peer is dialled again in a lower version
+pub redials_silent : (g : Setting) (m : Message) (peer : Uuid) (conn : ℕ) (s : State) → s.notes ≡ [] → IsSilent conn (Space.finish_event true (Endings.redial peer conn s)).1
+unfolding Endings.redial
+redials_silent g m peer conn s none = ordered conn (Requests.settle (Endings.redial peer conn s)) (settle_flow F (dial_flow F {l = []} peer (noted (Says (Close conn)) refl gone)))
+  where
+    F : Flows (view g (Received conn m) conn)
+    F = quiet_flow g (Received conn m) conn
+
+    gone : Quiet conn (event_parts (Endings.let_connection_go conn (Endings.note_peer peer s)))
+    gone = each_flow F {l = []} Endings.unpark (filter (λ (p : ParkedFrame). p.conn == conn) s.parked) (λ t p k. let_go_flow F {l = []} p t.parked (others _ refl refl k))
+        (start conn (Endings.without_connection conn (Endings.note_peer peer s)) none (row-ends conn s.connections))
 
 ended : (g : Setting) (e : Event) (conn : ℕ) (s : State) → s.notes ≡ [] → ends_on conn e ≡ true → IsSilent conn (Space.on g e s).1
 unfolding Space.on Space.happen Endings.fail_write

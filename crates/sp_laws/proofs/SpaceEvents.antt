@@ -138,6 +138,8 @@ view g before e id = record {
   Fails = (call_view g before e).Fails;
   Ends = EndsWith g before e;
   Starts = StartsBy g before e;
+  Speaks = λ c version. Unit {0};
+  Fits = λ c ids. Unit {0};
   Keeps = λ l s. (Waits l s × Goes g before e l (event_parts s)) × Kept g before e id s.tasks_made s.tasks;
 }
 
@@ -152,6 +154,8 @@ goes_flow g before e of fitted id = record {
   gives = F.gives;
   refuses = F.refuses;
   finds = F.finds;
+  speaks = λ c version. tt;
+  fits = λ c ids. tt;
   quiet = λ l s u eq k. (F.quiet l s u eq k.0, subst (λ (c : EventParts). Kept g before e id c.tasks_made c.tasks) (sym eq) k.1);
   says = λ l s output is so k. (F.says l s output is so k.0, k.1);
   sends = λ l s turn c m may held k. (F.sends l s turn c m may held k.0, k.1);

@@ -191,6 +191,8 @@ view g e conn k i = record {
   Fails = λ c. Unit {0};
   Ends = λ a r. Unit {0};
   Starts = λ o n a. Unit {0};
+  Speaks = λ c version. Unit {0};
+  Fits = λ c ids. Unit {0};
   Keeps = λ l s. Started conn k i (is_finish e) (owed_of conn k l) s.tasks s.parked s.connections;
 }
 
@@ -217,6 +219,8 @@ started_flow g e conn k i = record {
   gives = λ p value fuel asked is a b c. tt;
   refuses = λ c n class is. tt;
   finds = λ c n name r is own. tt;
+  speaks = λ c version. tt;
+  fits = λ c ids. tt;
   quiet = λ l s t eq h. subst (λ (c : EventParts). Started conn k i (is_finish e) (owed_of conn k l) c.tasks c.parked c.connections) (sym eq) h;
   says = λ l s output is so h. h;
   sends = λ l s turn c m may held h. h;
@@ -266,7 +270,7 @@ started_flow g e conn k i = record {
 
 started-begin : (g : Setting) (s : State) (conn k i : ℕ) (e : Event) → opens conn e ≡ false → Begins (view g e conn k i) s
 started-begin g s conn k i e old = record {
-  opens = λ c dialled is h. rows _ (ap (limit 1 k) (more-row conn (record { number = c; dialled = dialled; peer = None; last = 0; sent = [] }) (sym (ap (opens conn) is) ∙ old) s.connections) ∙ h.passed) h;
+  opens = λ c dialled is h. rows _ (ap (limit 1 k) (more-row conn (record { number = c; dialled = dialled; peer = None; version = 1; last = 0; sent = [] }) (sym (ap (opens conn) is) ∙ old) s.connections) ∙ h.passed) h;
   parks = λ id n t target method arguments is ready stands h. tasks-set id (LivingTasks.waiting n) (record { id = λ u. refl; origin = λ u. refl }) h;
   looks = λ peer name is h. h;
   roots = λ method arguments fuel is. tt;

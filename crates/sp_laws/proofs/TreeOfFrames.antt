@@ -34,7 +34,6 @@ use Rattle.sp_rules.specs.LivingTasks
 use Rattle.sp_rules.specs.OwnEvents
 use Rattle.sp_rules.specs.ParkedFrames
 use Rattle.sp_rules.specs.References.{references_in, references_of, foreign_ids}
-use Rattle.sp_rules.specs.Requests.{flush_waiting}
 use Rattle.sp_rules.specs.Space
 use Rattle.sp_rules.specs.State
 use Rattle.sp_rules.specs.State.{State, Request, Asked, Calls, LooksUp, Tells, Stage, Waits, Out, Answered, Origin, OfRoot, OfCall, Living, Until, Connection, Frame, CallFrame, ReturnedFrame, ParkedFrame, task_at, ready_at, set_task, send, is_open, object_at, connection_at, connection_to}
@@ -44,7 +43,7 @@ use Rattle.sp_rules.proofs.FuelSums.{total-snoc, total-filter, total-find, total
 use Rattle.sp_rules.proofs.OwnLemmas.{and-left, and-right}
 use Rattle.sp_laws.specs.Trees.{Part, has_task, counted, carried, request_part, parked_part, left_in, root_part, ended_part, DialsOwn, FitsTree}
 use Rattle.sp_laws.proofs.RowLemmas.{counted-most, first-found}
-use Rattle.sp_laws.proofs.TreeOfTasks.{HasOwn, StandsOwn, IsTagged, IsDialler, Tags, TagParts, tag_parts, Within, if_within, more, some_within, each_same, say_within, send_within, hold_within, drop_within, plus-zero, weaken, push, pop, flush_within, add_task_within, Gains, reply_to_within, reply_none_within, give_back_within, commit_within, park_call_within, finish_within}
+use Rattle.sp_laws.proofs.TreeOfTasks.{HasOwn, StandsOwn, IsTagged, IsDialler, Tags, TagParts, tag_parts, Within, if_within, more, some_within, each_same, say_within, send_within, hold_within, drop_within, plus-zero, dial_within, weaken, push, pop, flush_within, add_task_within, Gains, reply_to_within, reply_none_within, give_back_within, commit_within, park_call_within, finish_within}
 
 -- ---- connections
 
@@ -181,20 +180,26 @@ end_requests_within g is why e =
     each_same _ _ (λ t q h. end_asked_within g (why q.asked) q.asked h)
     (each_same _ _ (λ t q h. end_asked_within g (why q.asked) q.asked h) (remove_within is e))
 
+let_connection_go_within : {low : ℕ} {v : Part} {qs : List Request} {n : ℕ} {s : State} (conn : ℕ) → Within low v qs n s → Within low v qs n (Endings.let_connection_go conn s)
+let_connection_go_within {low} {v} {qs} {n} {s} conn e = each_same _ _ (λ t p h. let_go_within p t.parked (take_within p h)) (record {
+  bound = e.bound;
+  tags = record {
+    calls = e.tags.calls;
+    ids = e.tags.ids;
+    requests = e.tags.requests;
+    fresh = e.tags.fresh;
+    also = e.tags.also;
+    connections = all-filter (IsDialler v) (λ (d : Connection). not (d.number == conn)) s.connections e.tags.connections;
+  };
+})
+
 pub end_connection_within : {low : ℕ} {v : Part} {qs : List Request} {n : ℕ} {s : State} (g : Setting) (why : Asked → ClassId) (conn : ℕ) → Within low v qs n s → Within low v qs n (Endings.end_connection g why conn s)
 unfolding Endings.end_connection
-end_connection_within {low} {v} {qs} {n} {s} g why conn e = some_within (connection_at s conn) _ e (λ c is. end_requests_within g _ why
-    (each_same _ _ (λ t p h. let_go_within p t.parked (take_within p h)) (record {
-      bound = e.bound;
-      tags = record {
-        calls = e.tags.calls;
-        ids = e.tags.ids;
-        requests = e.tags.requests;
-        fresh = e.tags.fresh;
-        also = e.tags.also;
-        connections = all-filter (IsDialler v) (λ (d : Connection). not (d.number == conn)) s.connections e.tags.connections;
-      };
-    })))
+end_connection_within {low} {v} {qs} {n} {s} g why conn e = some_within (connection_at s conn) _ e (λ c is. end_requests_within g _ why (let_connection_go_within conn e))
+
+redial_within : {low : ℕ} {v : Part} {qs : List Request} {n : ℕ} {s : State} (peer : Uuid) (conn : ℕ) → Within low v qs n s → Within low v qs n (Endings.redial peer conn s)
+unfolding Endings.redial
+redial_within {low} {v} {qs} {n} {s} peer conn e = dial_within peer (plus-zero (say_within (Close conn) (let_connection_go_within {n = n} {s = Endings.note_peer peer s} conn (record { bound = e.bound; tags = e.tags }))))
 
 pub close_within : {low : ℕ} {v : Part} {qs : List Request} {n : ℕ} {s : State} (g : Setting) (class : ClassId) (conn : ℕ) → Within low v qs n s → Within low v qs n (Endings.close g class conn s)
 unfolding Endings.close
@@ -213,6 +218,11 @@ row-tags {low} {v} s conn f keeps e = record {
   connections = all-first (IsDialler v) (λ (c : Connection). c.number == conn) f s.connections keeps e.connections;
 }
 
+say_hello_within : {low : ℕ} {v : Part} {qs : List Request} {n : ℕ} {s : State} (g : Setting) (version conn : ℕ) → Within low v qs n s → Within low v qs n (Frames.say_hello g version conn s)
+say_hello_within {low} {v} {qs} {n} {s} g version conn e =
+    let said : Within low v qs n (send Hellos conn (message.Hello version g.id g.digest) s) = plus-zero (send_within {n = n} Hellos conn (message.Hello version g.id g.digest) e) in
+    record { bound = said.bound; tags = row-tags (send Hellos conn (message.Hello version g.id g.digest) s) conn (λ (d : Connection). record d { version = version }) (λ d h. h) said.tags }
+
 pub first_frame_within : {low : ℕ} {v : Part} {qs : List Request} {n : ℕ} {s : State} (g : Setting) (c : Connection) (m : Message) → IsDialler v c → Within low v qs n s → Within low v qs n (Frames.first_frame g c m s)
 unfolding Frames.first_frame
 first_frame_within {low} {v} {qs} {n} {s} g c (message.Hello version space digest) own e = some_within c.dialled _ (accepts _) (λ peer is. dials peer is _)
@@ -220,12 +230,13 @@ first_frame_within {low} {v} {qs} {n} {s} g c (message.Hello version space diges
     known : Within low v qs n (Frames.greeted space c.number s)
     known = record { bound = e.bound; tags = row-tags s c.number (λ (d : Connection). record d { peer = Some space }) (λ d h. h) e.tags }
 
-    accepts : (b : Bool) → Within low v qs n (if b then Frames.greeted space c.number s else Endings.close g g.classes.unmarshal c.number s)
-    accepts true = known
+    accepts : (b : Bool) → Within low v qs n (if b then Frames.answer_hello g version c.number (Frames.greeted space c.number s) else Endings.close g g.classes.unmarshal c.number s)
+    accepts true = if_within (nat_le 2 g.version) (say_hello_within g _ c.number known) known
     accepts false = close_within g _ c.number e
 
-    dials : (peer : Uuid) → c.dialled ≡ Some peer → (b : Bool) → Within low v qs n (if b then flush_waiting peer c.number (Frames.greeted space c.number s) else Endings.close g g.classes.connect c.number s)
-    dials peer is true = flush_within peer c.number (own (ap is_some is)) known
+    dials : (peer : Uuid) → c.dialled ≡ Some peer → (b : Bool) → Within low v qs n (if b then Frames.answered_hello g c peer version space s else Endings.close g g.classes.connect c.number s)
+    dials peer is true = if_within (version == c.version) (flush_within peer c.number (own (ap is_some is)) known)
+        (if_within (nat_le 2 c.version && version == 1) (redial_within peer c.number e) (close_within g _ c.number e))
     dials peer is false = close_within g _ c.number e
 first_frame_within g c _ own e = close_within g _ c.number e
 
@@ -351,9 +362,9 @@ got_within {low} {v} g c (message.Returned number fuel value) e = answered_by_wi
 got_within g c (message.Threw number class) e = answered_by_within 0 g c number _ (λ asked. ends_as_within g c number (λ a. Frames.thrown_reply g class) asked refl e) e
 got_within g c (message.Spent number) e = answered_by_within 0 g c number _ (λ asked. ends_as_within g c number (Frames.spent_reply g) asked (spent-back g asked) e) e
 got_within g c (message.Ack number) e = more 0 (got_ack_within g c number e)
-got_within {low} {v} {qs} {n} g c (message.Dirty sequence period objects) e = more 0 (plus-zero (send_within {n = n} Replies c.number (message.Lease sequence (min period 600000)) (record { bound = e.bound; tags = e.tags })))
+got_within {low} {v} {qs} {n} g c (message.Dirty sequence period objects) e = more 0 (if_within (Frames.fit_frame c objects) (plus-zero (send_within {n = n} Replies c.number (message.Lease sequence (min period 600000)) (record { bound = e.bound; tags = e.tags }))) (close_within g _ c.number e))
 got_within g c (message.Lease sequence period) e = more 0 (told_by_within g c true sequence _ e)
-got_within {low} {v} {qs} {n} g c (message.Clean sequence strong objects) e = more 0 (plus-zero (send_within {n = n} Replies c.number (message.Cleaned sequence) (record { bound = e.bound; tags = e.tags })))
+got_within {low} {v} {qs} {n} g c (message.Clean sequence strong objects) e = more 0 (if_within (Frames.fit_frame c objects) (plus-zero (send_within {n = n} Replies c.number (message.Cleaned sequence) (record { bound = e.bound; tags = e.tags }))) (close_within g _ c.number e))
 got_within g c (message.Cleaned sequence) e = more 0 (told_by_within g c false sequence _ e)
 got_within g c (message.Lookup number name) e = more 0 (got_lookup_within g c number name e)
 
@@ -372,7 +383,7 @@ pub opened_within : {low : ℕ} {v : Part} {qs : List Request} {n : ℕ} {s : St
 unfolding OwnEvents.on_opened
 opened_within {low} {v} {qs} {n} {s} g conn dialled own e = says dialled own
   where
-    added : (d : Option Uuid) → IsDialler v (record { number = conn; dialled = d; peer = None; last = 0; sent = [] }) → Within low v qs n (OwnEvents.add_connection conn d s)
+    added : (d : Option Uuid) → IsDialler v (record { number = conn; dialled = d; peer = None; version = 1; last = 0; sent = [] }) → Within low v qs n (OwnEvents.add_connection conn d s)
     added d is = record {
       bound = e.bound;
       tags = record {
@@ -381,15 +392,18 @@ opened_within {low} {v} {qs} {n} {s} g conn dialled own e = says dialled own
         requests = e.tags.requests;
         fresh = e.tags.fresh;
         also = e.tags.also;
-        connections = all-more (IsDialler v) s.connections (record { number = conn; dialled = d; peer = None; last = 0; sent = [] }) e.tags.connections is;
+        connections = all-more (IsDialler v) s.connections (record { number = conn; dialled = d; peer = None; version = 1; last = 0; sent = [] }) e.tags.connections is;
       };
     }
 
-    says : (d : Option Uuid) → DialsOwn v conn d → Within low v qs n (Frames.say_hello g conn (OwnEvents.dialled_no_more d (OwnEvents.add_connection conn d s)))
-    says None known = plus-zero (send_within {n = n} Hellos conn (message.Hello 1 g.id g.digest) (added None (λ z. absurd (true≢false (sym z)))))
+    says : (d : Option Uuid) → DialsOwn v conn d → Within low v qs n (OwnEvents.first_hello g conn d (OwnEvents.dialled_no_more d (OwnEvents.add_connection conn d s)))
+    says None known =
+        let k : Within low v qs n (OwnEvents.add_connection conn None s) = added None (λ z. absurd (true≢false (sym z))) in
+        if_within (nat_le 2 g.version) k (say_hello_within g 1 conn k)
     says (Some peer) known =
         let k : Within low v qs n (OwnEvents.add_connection conn (Some peer) s) = added (Some peer) (λ z. known) in
-        plus-zero (send_within {n = n} Hellos conn (message.Hello 1 g.id g.digest) (record { bound = k.bound; tags = k.tags }))
+        let now : Within low v qs n (OwnEvents.dialled_no_more (Some peer) (OwnEvents.add_connection conn (Some peer) s)) = record { bound = k.bound; tags = k.tags } in
+        say_hello_within g _ conn now
 
 pub refused_within : {low : ℕ} {v : Part} {qs : List Request} {n : ℕ} {s : State} (g : Setting) (peer : Uuid) → Within low v qs n s → Within low v qs n (OwnEvents.on_refused g peer s)
 unfolding OwnEvents.on_refused

@@ -1,6 +1,6 @@
 -- What most rules of a space leave: a property that looks at leases and parked frames alone is kept by each rule if it is kept by all that happens to
 -- a foreign reference but a lease that comes, and by frames that are taken out; and if frames that wait for nothing go before the rule ends.
-use Rattle.std.specs.Prelude.{◌≡◌, refl, ℕ, ◌+◌, not, ◌||◌, ◌&&◌, nat_le, nat_lt, is_none, is_some, Bool, true, false, List, [], ◌∷◌, Option, None, Some, Result, Ok, Err, filter, find, if◌then◌else◌}
+use Rattle.std.specs.Prelude.{◌≡◌, refl, ℕ, ◌+◌, ◌==◌, not, ◌||◌, ◌&&◌, nat_le, nat_lt, is_none, is_some, Bool, true, false, List, [], ◌∷◌, Option, None, Some, Result, Ok, Err, filter, find, if◌then◌else◌}
 use Rattle.std.specs.List.{list_any}
 use Rattle.space_ids.specs.declared.ids.ClassId.{ClassId}
 use Rattle.dgc_client.specs.History as lease_events
@@ -304,10 +304,16 @@ end_requests_keeps S {s = s} is why e =
     each_keeps S.steady.framed _ _ (λ t q h. end_asked_keeps S (why q.asked) q.asked h)
     (each_keeps S.steady.framed _ _ (λ t q h. end_asked_keeps S (why q.asked) q.asked h) (S.steady.framed.frame s _ refl e))
 
+let_connection_go_keeps : {P : State → Type 0} (F : IsFramed P) {s : State} (conn : ℕ) → P s → P (Endings.let_connection_go conn s)
+let_connection_go_keeps F {s = s} conn e = each_keeps F _ _ (λ t p h. let_go_keeps F p t.parked (F.taken t (λ r. not (ParkedFrames.is_parked_at p.conn p.number r)) h)) (F.frame s _ refl e)
+
+redial_keeps : {P : State → Type 0} (F : IsFramed P) {s : State} (peer : Uuid) (conn : ℕ) → P s → P (Endings.redial peer conn s)
+unfolding Endings.redial
+redial_keeps F {s = s} peer conn e = dial_keeps F peer (F.frame _ _ refl (let_connection_go_keeps F conn (F.frame s _ refl e)))
+
 end_connection_keeps : {g : Setting} {P : State → Type 0} (S : IsStable g P) {s : State} (why : Asked → ClassId) (conn : ℕ) → P s → P (Endings.end_connection g why conn s)
 unfolding Endings.end_connection
-end_connection_keeps S {s = s} why conn e = some_keeps S.steady.framed (connection_at s conn) _ e (λ c is. end_requests_keeps S _ why
-    (each_keeps S.steady.framed _ _ (λ t p h. let_go_keeps S.steady.framed p t.parked (S.steady.framed.taken t (λ r. not (ParkedFrames.is_parked_at p.conn p.number r)) h)) (S.steady.framed.frame s _ refl e)))
+end_connection_keeps S {s = s} why conn e = some_keeps S.steady.framed (connection_at s conn) _ e (λ c is. end_requests_keeps S _ why (let_connection_go_keeps S.steady.framed conn e))
 
 pub close_keeps : {g : Setting} {P : State → Type 0} (S : IsStable g P) {s : State} (class : ClassId) (conn : ℕ) → P s → P (Endings.close g class conn s)
 unfolding Endings.close
@@ -319,10 +325,15 @@ fail_write_keeps S conn unsent e = end_connection_keeps S _ conn e
 
 -- ---- frames
 
+say_hello_keeps : {P : State → Type 0} (F : IsFramed P) {s : State} (g : Setting) (version conn : ℕ) → P s → P (Frames.say_hello g version conn s)
+say_hello_keeps F g version conn e = F.frame _ _ refl (send_keeps F Rattle.sp_rules.specs.Events.Hellos conn (message.Hello version g.id g.digest) e)
+
 pub first_frame_keeps : {g : Setting} {P : State → Type 0} (S : IsStable g P) {s : State} (c : Connection) (m : Message) → P s → P (Frames.first_frame g c m s)
 unfolding Frames.first_frame
-first_frame_keeps {g} {P} S {s = s} c (message.Hello version space digest) e = some_keeps S.steady.framed c.dialled _ (if_keeps S.steady.framed _ known (close_keeps S _ c.number e))
-    (λ peer is. if_keeps S.steady.framed _ (flush_keeps S.steady.framed peer c.number known) (close_keeps S _ c.number e))
+first_frame_keeps {g} {P} S {s = s} c (message.Hello version space digest) e = some_keeps S.steady.framed c.dialled _
+    (if_keeps S.steady.framed _ (if_keeps S.steady.framed (nat_le 2 g.version) (say_hello_keeps S.steady.framed g _ c.number known) known) (close_keeps S _ c.number e))
+    (λ peer is. if_keeps S.steady.framed _ (if_keeps S.steady.framed (version == c.version) (flush_keeps S.steady.framed peer c.number known)
+    (if_keeps S.steady.framed (nat_le 2 c.version && version == 1) (redial_keeps S.steady.framed peer c.number e) (close_keeps S _ c.number e))) (close_keeps S _ c.number e))
   where
     known : P (Frames.greeted space c.number s)
     known = S.steady.framed.frame s _ refl e
@@ -389,9 +400,9 @@ got_keeps S c (message.Returned number fuel value) e = answered_by_keeps S c num
 got_keeps {g} S c (message.Threw number class) e = answered_by_keeps S c number _ (λ asked. ends_as_keeps S c number (λ a. Frames.thrown_reply g class) asked e) e
 got_keeps {g} S c (message.Spent number) e = answered_by_keeps S c number _ (λ asked. ends_as_keeps S c number (Frames.spent_reply g) asked e) e
 got_keeps S c (message.Ack number) e = got_ack_keeps S c number e
-got_keeps S {s = s} c (message.Dirty sequence period objects) e = send_keeps S.steady.framed _ c.number _ (S.steady.framed.frame s _ refl e)
+got_keeps S {s = s} c (message.Dirty sequence period objects) e = if_keeps S.steady.framed (Frames.fit_frame c objects) (send_keeps S.steady.framed _ c.number _ (S.steady.framed.frame s _ refl e)) (close_keeps S _ c.number e)
 got_keeps S c (message.Lease sequence period) e = told_by_keeps S c true sequence _ e
-got_keeps S {s = s} c (message.Clean sequence strong objects) e = send_keeps S.steady.framed _ c.number _ (S.steady.framed.frame s _ refl e)
+got_keeps S {s = s} c (message.Clean sequence strong objects) e = if_keeps S.steady.framed (Frames.fit_frame c objects) (send_keeps S.steady.framed _ c.number _ (S.steady.framed.frame s _ refl e)) (close_keeps S _ c.number e)
 got_keeps S c (message.Cleaned sequence) e = told_by_keeps S c false sequence _ e
 got_keeps S c (message.Lookup number name) e = got_lookup_keeps S c number name e
 
@@ -432,8 +443,8 @@ lookup_keeps S {s = s} peer name e = if_keeps S.steady.framed (Rattle.sp_registr
 
 opened_keeps : {g : Setting} {P : State → Type 0} (S : IsStable g P) {s : State} (conn : ℕ) (dialled : Option Uuid) → P s → P (OwnEvents.on_opened g conn dialled s)
 unfolding OwnEvents.on_opened
-opened_keeps S {s = s} conn None e = send_keeps S.steady.framed _ conn _ (S.steady.framed.frame s _ refl e)
-opened_keeps S {s = s} conn (Some peer) e = send_keeps S.steady.framed _ conn _ (S.steady.framed.frame s _ refl e)
+opened_keeps {g} S {s = s} conn None e = if_keeps S.steady.framed (nat_le 2 g.version) (S.steady.framed.frame s _ refl e) (say_hello_keeps S.steady.framed g 1 conn (S.steady.framed.frame s _ refl e))
+opened_keeps {g} S {s = s} conn (Some peer) e = say_hello_keeps S.steady.framed g _ conn (S.steady.framed.frame s _ refl e)
 
 refused_keeps : {g : Setting} {P : State → Type 0} (S : IsStable g P) {s : State} (peer : Uuid) → P s → P (OwnEvents.on_refused g peer s)
 unfolding OwnEvents.on_refused

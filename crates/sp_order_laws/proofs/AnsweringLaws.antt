@@ -97,7 +97,7 @@ go_out_kept x conn k sent bound s turn n q said h = goes q.asked said
     goes : (asked : Asked) → IsSaid asked → Kept x conn k sent bound (Requests.goes_out turn n q.peer asked s)
     goes (Calls number task lent kind m) is = send_kept x conn k sent bound _ turn n m (call-answers number task lent kind m is) h
     goes (LooksUp number task name) is = send_kept x conn k sent bound _ turn n _ (lookup-answers number name) h
-    goes (Tells call group) is = keep_each (Kept x conn k sent bound) (Requests.part_goes_out turn n call) (groups.parts_of 1024 group) (λ t part j. part_kept x conn k sent bound t turn n call part j) h
+    goes (Tells call group) is = keep_each (Kept x conn k sent bound) (Requests.part_goes_out turn n call) (groups.parts_of (Requests.most_on s n) group) (λ t part j. part_kept x conn k sent bound t turn n call part j) h
 
 dial_kept : (x : Exchange) (conn k sent bound : ℕ) (s : State) (peer : Uuid) → Kept x conn k sent bound s → Kept x conn k sent bound (Requests.dial peer s)
 unfolding Requests.dial

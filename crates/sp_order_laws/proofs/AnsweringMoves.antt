@@ -255,6 +255,7 @@ owing_moves g x conn k sent bound counts = record {
         let b : total (weight x conn k counts) (filter (λ q. not (is_parked_at p.conn p.number q)) s.parked) ≤ total (weight x conn k counts) s.parked = total-filter (weight x conn k counts) (λ q. not (is_parked_at p.conn p.number q)) s.parked in omega arith;
   };
   counts = λ l s n number h. h;
+  versions = λ l s n version h. h;
   closes = λ l s n h. h;
 }
 

@@ -27,8 +27,8 @@ use Rattle.sp_order_laws.specs.CallAnswers.{StartsNone, RefusedCallsStartNone, I
 use Rattle.sp_order_laws.specs.Delivered.{came_on, frame_of, sent_on, outputs_at, Delivers, WhatComesWasSent}
 use Rattle.sp_order_laws.specs.Ends.{IsOneOf, IsAnswered, Says, IsToldBy, IsOfFailure, CallsEndByCallees}
 use Rattle.sp_order_laws.proofs.KindLemmas.{LooksUpNone, calls-look-up-none}
-use Rattle.sp_order_laws.proofs.UnbrokenLaws.{came-now, one-output}
-use Rattle.sp_order_laws.proofs.WelcomeLemmas.{one-left, one-some}
+use Rattle.sp_order_laws.proofs.UnbrokenLaws.{came-now}
+use Rattle.sp_order_laws.proofs.WelcomeLemmas.{one-left, one-some, one-output}
 use Rattle.sp_order_laws.proofs.WorldFacts.{Known, all_known, at-all, outputs-there}
 
 -- ---- what came, and what is asked

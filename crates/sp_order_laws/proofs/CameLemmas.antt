@@ -43,6 +43,8 @@ view g e h = record {
   Fails = λ c. Unit {0};
   Ends = λ a r. Unit {0};
   Starts = λ o n a. Unit {0};
+  Speaks = λ c version. Unit {0};
+  Fits = λ c ids. Unit {0};
   Keeps = λ l s. AllOf (Came (e ∷ h)) s.parked;
 }
 
@@ -69,6 +71,8 @@ came_flow g e h = record {
   gives = λ p value fuel asked is a b c. tt;
   refuses = λ c n class is. tt;
   finds = λ c n name r is own. tt;
+  speaks = λ c version. tt;
+  fits = λ c ids. tt;
   quiet = λ l s t eq k. subst (λ (c : EventParts). AllOf (Came (e ∷ h)) c.parked) (sym eq) k;
   says = λ l s output is so k. k;
   sends = λ l s turn c m may held k. k;

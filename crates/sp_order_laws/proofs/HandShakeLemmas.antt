@@ -14,9 +14,10 @@ use Rattle.sp_laws.specs.Inbound.{opened}
 use Rattle.sp_order_laws.specs.Delivered.{came_on, sent_on, outputs_in, outputs_at}
 use Rattle.sp_order_laws.specs.InOrder.{AreInOrder}
 use Rattle.sp_order_laws.proofs.DeliveryLemmas.{lost_frames_come_last}
-use Rattle.sp_order_laws.specs.Hellos.{own_hello, NoHellos, BeginsWithHello, BeginsWelcome, BeginsInOrder}
+use Rattle.sp_order_laws.specs.Hellos.{NoHellos, BeginsWithHello, says_late, SaysFirst, BeginsWelcome, BeginsInOrder}
 use Rattle.sp_order_laws.specs.HandShakes.{HasNotHeard, HasHeard, IsInTable, IsHandShake, HandShakesAreInTable}
-use Rattle.sp_order_laws.proofs.TableLemmas.{connections_begin_in_order, none-left}
+use Rattle.sp_order_laws.proofs.HelloLemmas.{none-left}
+use Rattle.sp_order_laws.proofs.TableLemmas.{connections_begin_in_order}
 
 at-all : (n : ℕ) (xs : List Space) (x : Space) (P : Space → Type 0) → slice_get xs n ≡ Some x → AllOf P xs → P x
 at-all n [] x P e a = absurd (some-none x (sym e))
@@ -42,7 +43,7 @@ after-first (x ∷ xs) ys m ms e a more = rest xs ms (ap others e) a
     rest (z ∷ zs) (n ∷ ns) e a = rest zs ns (ap others e) a.1
 
 begins-after : (g : Setting) (xs ys all : List Message) → xs ++ ys ≡ all → BeginsWithHello g all → (xs ≡ [] → ⊥) → NoHellos ys
-begins-after g xs ys [] e a more = absurd a
+begins-after g xs ys [] e a more = absurd (more (none-left xs ys e).0)
 begins-after g xs ys (m ∷ ms) e a more = after-first xs ys m ms e a.1 more
 
 nothing-after : (xs ys : List Message) (m : Message) → xs ++ ys ≡ m ∷ [] → (xs ≡ [] → ⊥) → ys ≡ []
@@ -70,14 +71,20 @@ in-table : (s there : Space) (conn : ℕ) (came queue lost : List Message) → B
 in-table s there conn came queue lost k t is all = record {
   unopened = λ o. (none-left came (queue ++ lost) (all ∙ (t.silent o).1)).1;
   first = λ o h. subst (BeginsWithHello there.setting) (sym (sent h)) (t.first o);
-  alone = λ a h. sent h ∙ (t.waits a.row a.there a.none).1;
+  early = λ a h none. t.early a (sym (sent h) ∙ none);
+  alone = λ a h. subst (SaysFirst there.setting (says_late there.setting a.row.dialled)) (sym (sent h)) (t.waits a.row a.there a.none).1;
   later = λ h. begins-after there.setting came (queue ++ lost) (sent_on conn there.outputs) all (t.first (said h (opened conn there.history) refl)) (came-some h);
-  answered = λ h a. nothing-after came (queue ++ lost) (own_hello there.setting) (all ∙ (t.waits a.row a.there a.none).1) (came-some h);
+  answered = λ h a. none-after (says_late there.setting a.row.dialled) (t.waits a.row a.there a.none).1 (came-some h);
 }
   where
     -- nothing came, so all that was sent is under way or lost
     sent : HasNotHeard s conn → queue ++ lost ≡ sent_on conn there.outputs
     sent h = sym (ap (λ (l : List Message). l ++ (queue ++ lost)) (is ∙ (k.waits h.row h.there h.none).0)) ∙ all
+
+    -- no Hello came there, so at most the Hello was sent, and that came
+    none-after : (late : Bool) → SaysFirst there.setting late (sent_on conn there.outputs) → (came ≡ [] → ⊥) → queue ++ lost ≡ []
+    none-after true none some = absurd (some (none-left came (queue ++ lost) (all ∙ none)).0)
+    none-after false one some = nothing-after came (queue ++ lost) one.hello (all ∙ one.alone) some
 
     came-some : HasHeard s conn → came ≡ [] → ⊥
     came-some h e = welcome-there s.setting h.row.dialled h.peer (came_on conn s.history) (k.greeted h.row h.peer h.there h.some) (sym is ∙ e)

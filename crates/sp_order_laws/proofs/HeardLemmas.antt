@@ -10,7 +10,7 @@ use Rattle.net_message.specs.declared.message.Message.{Message}
 use Rattle.net_message.specs.declared.message.Message.TheVariants as message
 use Rattle.sp_rules.specs.Classes.{Setting}
 use Rattle.sp_rules.specs.Events.{Event, Moment, Sweep, Root, RootAck, Bind, Rebind, Unbind, Lookup, Opened, Refused, Received, Closed, ReadFailed, Bad, WriteFailed, Committed, Parked, GivenBack, Finished}
-use Rattle.sp_rules.specs.Laws.{AllOf, told_in, told_from, told_on, told_by}
+use Rattle.sp_rules.specs.Laws.{AllOf, is_short, told_in, told_from, told_on, told_by}
 use Rattle.sp_rules.specs.OwnEvents.{without_reason}
 use Rattle.sp_rules.specs.Refusals.{refusal}
 use Rattle.sp_rules.specs.State.{State, Object, Connection, connection_at, opening}
@@ -80,8 +80,12 @@ hears h conn client s (message.Lookup number name) calls said a = a
 
 received-heard : (s : Space) (conn : ℕ) (m : Message) (calls : List owner.Call) (row : Option Connection) → connection_at s.state conn ≡ row → BeginsInOrder s conn → AllOf (IsHeard (Received conn m ∷ s.history)) calls → AllOf (IsHeard (Received conn m ∷ s.history)) (told_on s.state row m calls)
 received-heard s conn m calls None there k a = a
-received-heard s conn m calls (Some c) there k a = by c.peer refl c.dialled
+received-heard s conn m calls (Some c) there k a = short (is_short c m) (by c.peer refl c.dialled)
   where
+    short : (b : Bool) → AllOf (IsHeard (Received conn m ∷ s.history)) (told_from c.peer c.dialled s.state m calls) → AllOf (IsHeard (Received conn m ∷ s.history)) (if b then told_from c.peer c.dialled s.state m calls else calls)
+    short true told = told
+    short false told = a
+
     by : (peer : Option Uuid) → c.peer ≡ peer → (dialled : Option Uuid) → AllOf (IsHeard (Received conn m ∷ s.history)) (told_from peer dialled s.state m calls)
     by None e dialled = a
     by (Some client) e None = hears s.history conn client s.state m calls (said-hello s.setting c.dialled client (came_on conn s.history) (k.greeted c client there e)) a

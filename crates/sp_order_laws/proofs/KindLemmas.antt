@@ -82,6 +82,8 @@ view g e k = record {
   Fails = λ c. Unit {0};
   Ends = λ a r. Unit {0};
   Starts = λ o n a. Unit {0};
+  Speaks = λ c version. Unit {0};
+  Fits = λ c ids. Unit {0};
   Keeps = Keeps k;
 }
 
@@ -176,6 +178,8 @@ apart_flow g e k = record {
   gives = λ p value fuel asked is a b c. tt;
   refuses = λ c n class is. tt;
   finds = λ c n name r is own. tt;
+  speaks = λ c version. tt;
+  fits = λ c ids. tt;
   quiet = λ l s t eq h. subst (λ (c : EventParts). Apart k l c.requests c.fresh c.notes) (sym eq) h;
   says = λ l s output is so h. notes-more (Says output) (said k output is) h;
   sends = λ l s turn c m may held h. notes-more (Sends turn c m) (can-go g e k c m may) h;

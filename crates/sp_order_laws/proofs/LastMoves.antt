@@ -131,6 +131,7 @@ coming_moves g h = record {
     parked = k.parked;
     rows = first-where (LastCame h) (λ (c : Connection). c.number == conn) (λ (c : Connection). record c { last = number }) s.connections (λ c e. inr (subst (λ n. IsOneOf number (call_numbers (came_on n h))) (sym (eqb-true c.number conn e)) k.owed.0)) k.rows;
   };
+  versions = λ l s conn version k. record { owed = k.owed; tasks = k.tasks; parked = k.parked; rows = all-first (LastCame h) (λ (c : Connection). c.number == conn) (λ (c : Connection). record c { version = version }) s.connections (λ c a. a) k.rows };
   closes = λ l s conn k. record { owed = k.owed; tasks = k.tasks; parked = k.parked; rows = all-filter (LastCame h) (λ (c : Connection). not (c.number == conn)) s.connections k.rows };
 }
 
@@ -180,7 +181,7 @@ go_out_rows {x} {s} turn conn q h = goes q.asked
     goes : (asked : Asked) → HasRows x (Requests.goes_out turn conn q.peer asked s)
     goes (Calls number task lent kind m) = send_rows turn conn m (record { same = h.same })
     goes (LooksUp number task name) = send_rows turn conn _ (record { same = h.same })
-    goes (Tells call group) = keep_each (HasRows x) (Requests.part_goes_out turn conn call) (groups.parts_of 1024 group) (λ t part k. part_rows turn conn call part k) h
+    goes (Tells call group) = keep_each (HasRows x) (Requests.part_goes_out turn conn call) (groups.parts_of (Requests.most_on s conn) group) (λ t part k. part_rows turn conn call part k) h
 
 ask_rows : {x : RowParts} {s : State} (q : Request) → HasRows x s → HasRows x (Requests.ask s q)
 unfolding Requests.ask Requests.dial
@@ -273,7 +274,7 @@ greeted_coming {h} s conn space k = record { owed = k.owed; tasks = k.tasks; par
 
 coming_begins : (g : Setting) (h : List Event) (s : State) (e : Event) → Begins g (Comes h) s e
 coming_begins g h s e = record {
-  opens = λ conn dialled is k. record { owed = k.owed; tasks = k.tasks; parked = k.parked; rows = all-more (LastCame h) s.connections (record { number = conn; dialled = dialled; peer = None; last = 0; sent = [] }) k.rows (inl refl) };
+  opens = λ conn dialled is k. record { owed = k.owed; tasks = k.tasks; parked = k.parked; rows = all-more (LastCame h) s.connections (record { number = conn; dialled = dialled; peer = None; version = 1; last = 0; sent = [] }) k.rows (inl refl) };
   greets = λ c space is k. greeted_coming s c.number space k;
   flushes = λ c space peer is shut k. subst (Coming h []) (sym (flush_rows {s = Frames.greeted space c.number s} peer c.number (record { same = refl })).same) (greeted_coming s c.number space k);
   asks = λ id n t target method arguments is k. (coming_moves g h).works [] s id (LivingTasks.waiting n) (record { id = λ u. refl; origin = λ u. refl }) k;

@@ -12,7 +12,7 @@ pub mod AnsweringLaws
 pub mod PlaceWorlds
 pub mod LastMoves
 pub mod LastWorlds
-mod ListLemmas
+pub mod ListLemmas
 mod QueueLemmas
 pub mod DeliveryLemmas
 mod CameLemmas
@@ -20,6 +20,7 @@ pub mod EndLemmas
 pub mod TurnLemmas
 pub mod RowLemmas
 pub mod FirstLemmas
+pub mod HelloLemmas
 pub mod TableLemmas
 pub mod HandShakeLemmas
 pub mod StayMoves
@@ -28,6 +29,7 @@ pub mod StayFrames
 pub mod StayLaws
 pub mod ResultStays
 pub mod RowStays
+pub mod VersionLemmas
 pub mod WelcomeLemmas
 pub mod AnswerFinds
 pub mod WelcomeFrames

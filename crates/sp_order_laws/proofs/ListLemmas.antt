@@ -1,12 +1,16 @@
 -- Rows of lists, and lists that are some of others.
-use mathlib.Core.Path.{sym, ap}
+use mathlib.Core.Path.{sym, ap, subst}
 use Rattle.std.proofs.Common.{arith, inl, inr}
-use Rattle.std.specs.Prelude.{◌≡◌, ◌⊎◌, refl, ℕ, zero, suc, length, take, List, [], ◌∷◌, ◌++◌, None, Some, slice_get}
+use Rattle.std.proofs.lemmas.Bool.{eqb-true}
+use Rattle.std.specs.Prelude.{◌≡◌, ◌⊎◌, refl, ℕ, zero, suc, ◌==◌, length, take, Bool, true, false, List, [], ◌∷◌, ◌++◌, None, Some, slice_get, if◌then◌else◌}
 use Rattle.net_message.specs.declared.message.Message.{Message}
+use Rattle.sp_rules.specs.Events.{Output, Started, Ended, Withdrawn, Denied, Send, Dial, Close, Ready}
+use Rattle.sp_rules.specs.Laws.{AllOf}
 use Rattle.sp_rules.specs.Lists.{at_index}
 use Rattle.sp_rules.proofs.AllLemmas.{some-none}
 use Rattle.sp_rules.proofs.OwnLemmas.{some-same}
-use Rattle.sp_order_laws.specs.Delivered.{AreSomeOf}
+use Rattle.sp_order_laws.specs.Delivered.{AreSomeOf, sent_on}
+use Rattle.sp_order_laws.specs.Ends.{IsOneOf}
 
 -- ---- rows
 
@@ -91,3 +95,43 @@ pub first-of : (n : ℕ) (xs : List Message) → (rest : List Message) × (take 
 first-of zero xs = (xs, refl)
 first-of (suc n) [] = ([], refl)
 first-of (suc n) (x ∷ xs) = let r = first-of n xs in (r.0, ap (λ (l : List Message). x ∷ l) r.1)
+
+-- ---- one of a list
+
+pub one-left : {A : Type 0} (x : A) (xs ys : List A) → IsOneOf x xs → IsOneOf x (xs ++ ys)
+one-left x [] ys a = absurd a
+one-left x (z ∷ zs) ys (inl e) = inl e
+one-left x (z ∷ zs) ys (inr a) = inr (one-left x zs ys a)
+
+pub one-right : {A : Type 0} (x : A) (xs ys : List A) → IsOneOf x ys → IsOneOf x (xs ++ ys)
+one-right x [] ys a = a
+one-right x (z ∷ zs) ys a = inr (one-right x zs ys a)
+
+pub one-either : {A : Type 0} (x : A) (xs ys : List A) → IsOneOf x (xs ++ ys) → (IsOneOf x xs) ⊎ (IsOneOf x ys)
+one-either x [] ys i = inr i
+one-either x (z ∷ xs) ys (inl e) = inl (inl e)
+one-either x (z ∷ xs) ys (inr i) = by (one-either x xs ys i)
+  where
+    by : (IsOneOf x xs) ⊎ (IsOneOf x ys) → (IsOneOf x (z ∷ xs)) ⊎ (IsOneOf x ys)
+    by (inl k) = inl (inr k)
+    by (inr k) = inr k
+
+-- an output among these
+pub one-output : (Is : Output → Type 0) (conn : ℕ) (m : Message) (os : List Output) → AllOf Is os → IsOneOf m (sent_on conn os) → Is (Send conn m)
+one-output Is conn m [] a o = absurd o
+one-output Is conn m (x ∷ os) a o = by x a.0 (λ i. one-output Is conn m os a.1 i) o
+  where
+    sent : (n : ℕ) (y : Message) (b : Bool) → (n == conn) ≡ b → Is (Send n y) → (IsOneOf m (sent_on conn os) → Is (Send conn m)) → IsOneOf m ((if b then y ∷ [] else []) ++ sent_on conn os) → Is (Send conn m)
+    sent n y true at k rest (inl e) = subst (λ z. Is (Send conn z)) (sym e) (subst (λ z. Is (Send z y)) (eqb-true n conn at) k)
+    sent n y true at k rest (inr i) = rest i
+    sent n y false at k rest i = rest i
+
+    by : (y : Output) → Is y → (IsOneOf m (sent_on conn os) → Is (Send conn m)) → IsOneOf m (Rattle.sp_order_laws.specs.Delivered.frame_in conn y ++ sent_on conn os) → Is (Send conn m)
+    by (Started task) k rest i = rest i
+    by (Ended task outcome) k rest i = rest i
+    by (Withdrawn ids) k rest i = rest i
+    by (Denied why) k rest i = rest i
+    by (Send n y) k rest i = sent n y (n == conn) refl k rest i
+    by (Dial peer) k rest i = rest i
+    by (Close n) k rest i = rest i
+    by (Ready task) k rest i = rest i

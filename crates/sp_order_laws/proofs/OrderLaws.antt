@@ -342,7 +342,7 @@ make_settles cs s b h = by (hello_came (connection_to s b.peer)) refl
     out : {t : State} → Goes (s.groups_made + 1) (s.groups_made + 1) (s.groups_made + 1) b.peer (NotCome cs) cs t → Settles cs t
     out {t} k = record { orders = subst (λ n. Ord n (numbers_of t.leases) t.requests) (sym k.told) k.ord; waits = k.kept; lines = k.lines }
 
-    goes : (conn : ℕ) → hello_came (connection_to s b.peer) ≡ Some conn → Settles cs (each (Requests.part_goes_out (Requests.turn_of b.kind) conn (s.groups_made + 1)) (groups.parts_of 1024 b) made)
+    goes : (conn : ℕ) → hello_came (connection_to s b.peer) ≡ Some conn → Settles cs (each (Requests.part_goes_out (Requests.turn_of b.kind) conn (s.groups_made + 1)) (groups.parts_of (Requests.most_on made conn) b) made)
     goes conn e = out (tells-goes (s.groups_made + 1) (s.groups_made + 1) (s.groups_made + 1) conn (NotCome cs) cs (Requests.turn_of b.kind) made b (λ c n part is w. absurd (true≢false (sym w))) (record {
       ord = kept;
       follows = all-with (Below s.groups_made (numbers_of s.leases)) (NotCome cs) (CanFollow (s.groups_made + 1) b.peer) s.requests (λ x k w. can-follow cs s.groups_made (numbers_of s.leases) conn b.peer x (subst (λ ds. hello_came (dialled_to ds b.peer) ≡ Some conn) h.lines e) k w) h.orders.bounds h.waits;
@@ -352,7 +352,7 @@ make_settles cs s b h = by (hello_came (connection_to s b.peer)) refl
       lines = h.lines;
     }))
 
-    by : (o : Option ℕ) → hello_came (connection_to s b.peer) ≡ o → Settles cs (with_some o (Requests.dial b.peer (Requests.add_request q made)) (λ conn. each (Requests.part_goes_out (Requests.turn_of b.kind) conn (s.groups_made + 1)) (groups.parts_of 1024 b) made))
+    by : (o : Option ℕ) → hello_came (connection_to s b.peer) ≡ o → Settles cs (with_some o (Requests.dial b.peer (Requests.add_request q made)) (λ conn. each (Requests.part_goes_out (Requests.turn_of b.kind) conn (s.groups_made + 1)) (groups.parts_of (Requests.most_on made conn) b) made))
     by None e = dials (waits e)
     by (Some conn) e = goes conn e
 
@@ -448,7 +448,7 @@ ask_back {F} {s} {t} q h = by (hello_came (connection_to t q.peer))
     goes : (conn : ℕ) (turn : Turn) (asked : Asked) → Back F s (Requests.goes_out turn conn q.peer asked t)
     goes conn turn (Calls number task lent kind m) = send_back turn conn m (more_back _ h)
     goes conn turn (LooksUp number task name) = send_back turn conn (message.Lookup number name) (more_back _ h)
-    goes conn turn (Tells call group) = keep_each (Back F s) (Requests.part_goes_out turn conn call) (groups.parts_of 1024 group) (λ u part k. part_back turn conn call part k) h
+    goes conn turn (Tells call group) = keep_each (Back F s) (Requests.part_goes_out turn conn call) (groups.parts_of (Requests.most_on t conn) group) (λ u part k. part_back turn conn call part k) h
 
     dials : Back F s (Requests.add_request q t) → Back F s (Requests.dial q.peer (Requests.add_request q t))
     dials k = either-state (Back F s) _ _ (is_some (connection_to t q.peer) || state.is_dialling t q.peer) k (record { back = k.back; lines = k.lines })

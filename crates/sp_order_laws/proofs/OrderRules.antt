@@ -135,6 +135,7 @@ order_moves g top = record {
   parks = λ l s p h. h;
   takes = λ l s p h. h;
   counts = λ l s conn number h. h;
+  versions = λ l s conn version h. h;
   closes = λ l s conn h. h;
 }
 
@@ -246,14 +247,14 @@ unfolding each
 each-known Q Is f [] s a k h = h
 each-known Q Is f (x ∷ xs) s a k h = each-known Q Is f xs (f s x) a.1 k (k s x a.0 h)
 
-parts-peer : (group : Group) → AllOf (λ (part : Group). part.peer ≡ group.peer) (groups.parts_of 1024 group)
-parts-peer group = all (groups.pieces 1024 group.ids)
+parts-peer : (most : ℕ) (group : Group) → AllOf (λ (part : Group). part.peer ≡ group.peer) (groups.parts_of most group)
+parts-peer most group = all (groups.pieces most group.ids)
   where
     all : (xs : List (List Rattle.space_ids.specs.declared.ids.ObjId.ObjId)) → AllOf (λ (part : Group). part.peer ≡ group.peer) (map (groups.part_of group) xs)
     all [] = tt
     all (x ∷ xs) = (refl, all xs)
 
 pub tells-goes : (top call made conn : ℕ) (F : Request → Type 0) (cs : List Connection) (turn : Turn) (s : State) (group : Group) → IsOfParts F call group.peer
-    → Goes top call made group.peer F cs s → Goes top call made group.peer F cs (each (Requests.part_goes_out turn conn call) (groups.parts_of 1024 group) s)
-tells-goes top call made conn F cs turn s group known h = each-known (Goes top call made group.peer F cs) (λ (part : Group). part.peer ≡ group.peer) (Requests.part_goes_out turn conn call) (groups.parts_of 1024 group) s (parts-peer group)
+    → Goes top call made group.peer F cs s → Goes top call made group.peer F cs (each (Requests.part_goes_out turn conn call) (groups.parts_of (Requests.most_on s conn) group) s)
+tells-goes top call made conn F cs turn s group known h = each-known (Goes top call made group.peer F cs) (λ (part : Group). part.peer ≡ group.peer) (Requests.part_goes_out turn conn call) (groups.parts_of (Requests.most_on s conn) group) s (parts-peer (Requests.most_on s conn) group)
     (λ t part is k. part-goes top call made conn group.peer F cs turn t part known is k) h

@@ -69,6 +69,8 @@ view g e conn k t p = record {
   Fails = λ c. Unit {0};
   Ends = λ a r. Unit {0};
   Starts = λ o n a. Unit {0};
+  Speaks = λ c version. Unit {0};
+  Fits = λ c ids. Unit {0};
   Keeps = λ l s. Moves conn k t p (is_finish e) s.tasks s.parked;
 }
 
@@ -112,6 +114,8 @@ moves_flow g e conn k t p = record {
   gives = λ q v fuel asked is a b c. tt;
   refuses = λ c n class is. tt;
   finds = λ c n name r is own. tt;
+  speaks = λ c version. tt;
+  fits = λ c ids. tt;
   quiet = λ l s u eq h. subst (λ (c : EventParts). Moves conn k t p (is_finish e) c.tasks c.parked) (sym eq) h;
   says = λ l s output is so h. h;
   sends = λ l s turn c m may held h. h;

@@ -139,6 +139,8 @@ stay_view g e h Old R = record {
   Fails = λ c. is_ending e ≡ true;
   Ends = λ a r. Unit {0};
   Starts = λ o n a. Unit {0};
+  Speaks = λ c version. Unit {0};
+  Fits = λ c ids. Unit {0};
   Keeps = λ l s. Directed (e ∷ h) l (event_parts s) × Keeps Old R e s;
 }
 
@@ -199,6 +201,8 @@ stay_flow g e h Old R no-ack = record {
   gives = D.gives;
   refuses = D.refuses;
   finds = D.finds;
+  speaks = λ c version. tt;
+  fits = λ c ids. tt;
   quiet = λ l s t eq k. (D.quiet l s t eq k.0, same s t eq k.1);
   says = λ l s output is so k. (D.says l s output is so k.0, one-more Old R e s (Says output) is k.1);
   sends = λ l s turn c m may held k. (D.sends l s turn c m may held k.0, one-more Old R e s (Sends turn c m) (sends-it R s.results turn c m held) k.1);
@@ -270,7 +274,7 @@ stay-begin g s e h Old R = record {
     B = directed-begin g s e h Any (λ id n t outcome c m is ready stands origin. tt)
 
     opened-row : (c : ℕ) (dialled : Option Uuid) → e ≡ Opened c dialled → Keeps Old R e s → Keeps Old R e (Rattle.sp_rules.specs.OwnEvents.add_connection c dialled s)
-    opened-row c dialled is (inl shut) = inl (row-comes R.conn s.connections (record { number = c; dialled = dialled; peer = None; last = 0; sent = [] }) (subst (λ d. opens R.conn d ≡ false) is shut.1) shut.0, shut.1)
+    opened-row c dialled is (inl shut) = inl (row-comes R.conn s.connections (record { number = c; dialled = dialled; peer = None; version = 1; last = 0; sent = [] }) (subst (λ d. opens R.conn d ≡ false) is shut.1) shut.0, shut.1)
     opened-row c dialled is (inr k) = inr k
 
     unreached-ends : (d : Event) → is_unreached d ≡ true → is_ending d ≡ true

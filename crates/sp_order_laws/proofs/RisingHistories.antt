@@ -111,9 +111,9 @@ group_rising {outs} {top} {r} {rest} s b now low h = by (Requests.hello_came (co
     kept = subst (λ n. Rising outs top r rest (record { calls_made = s.calls_made; numbers = n; requests = s.requests; fresh = s.fresh; connections = s.connections; notes = s.notes }))
         (sym (numbers-told (client.references_at b.peer b.ids) (client.making b.kind call) s.leases)) h
 
-    by : (o : Option ℕ) → Rising outs top r rest (line_parts (with_some o (Requests.dial b.peer (Requests.add_request q made)) (λ conn. each (Requests.part_goes_out (Requests.turn_of b.kind) conn call) (groups.parts_of 1024 b) made)))
+    by : (o : Option ℕ) → Rising outs top r rest (line_parts (with_some o (Requests.dial b.peer (Requests.add_request q made)) (λ conn. each (Requests.part_goes_out (Requests.turn_of b.kind) conn call) (groups.parts_of (Requests.most_on made conn) b) made)))
     by None = dial_rising (Requests.add_request q made) b.peer (adds_rising q tt refl kept)
-    by (Some conn) = keep_each (λ t. Rising outs top r rest (line_parts t)) _ (groups.parts_of 1024 b) (λ t part k. part_rising t (Requests.turn_of b.kind) conn call part now low k) kept
+    by (Some conn) = keep_each (λ t. Rising outs top r rest (line_parts t)) _ (groups.parts_of (Requests.most_on made conn) b) (λ t part k. part_rising t (Requests.turn_of b.kind) conn call part now low k) kept
 
 dirty-turn : (kind : Due) → is_dirty_kind kind ≡ true → turn_rank (Requests.turn_of kind) ≡ 8
 dirty-turn due.Dirty e = refl

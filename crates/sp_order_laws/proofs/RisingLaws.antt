@@ -53,7 +53,7 @@ ask_fresh s q e = by (Requests.hello_came (connection_to s q.peer))
     goes : (turn : Turn) (conn : ℕ) (asked : Asked) → (Requests.goes_out turn conn q.peer asked s).fresh ≡ []
     goes turn conn (Calls number task lent kind m) = if_fresh _ _ (is_open s conn) e e
     goes turn conn (LooksUp number task name) = if_fresh _ _ (is_open s conn) e e
-    goes turn conn (Tells call group) = keep_each (λ t. t.fresh ≡ []) (Requests.part_goes_out turn conn call) (groups.parts_of 1024 group) (λ t part k. part_fresh t turn conn call part k) e
+    goes turn conn (Tells call group) = keep_each (λ t. t.fresh ≡ []) (Requests.part_goes_out turn conn call) (groups.parts_of (Requests.most_on s conn) group) (λ t part k. part_fresh t turn conn call part k) e
 
     by : (o : Option ℕ) → (with_some o (Requests.dial q.peer (Requests.add_request q s)) (λ conn. Requests.go_out (Requests.turn_asked q.asked) conn q s)).fresh ≡ []
     by None = if_fresh _ _ (is_some (connection_to s q.peer) || state.is_dialling s q.peer) e e
@@ -76,9 +76,9 @@ group_fresh s b = by (Requests.hello_came (connection_to made b.peer))
     part : (turn : Turn) (conn call : ℕ) (t : State) (p : Group) → t.fresh ≡ s.fresh → (Requests.part_goes_out turn conn call t p).fresh ≡ s.fresh
     part turn conn call t p e = either _ _ (is_open t conn) e e
 
-    by : (o : Option ℕ) → (with_some o (Requests.dial b.peer (Requests.add_request q made)) (λ conn. each (Requests.part_goes_out (Requests.turn_of b.kind) conn (s.groups_made + 1)) (groups.parts_of 1024 b) made)).fresh ≡ s.fresh
+    by : (o : Option ℕ) → (with_some o (Requests.dial b.peer (Requests.add_request q made)) (λ conn. each (Requests.part_goes_out (Requests.turn_of b.kind) conn (s.groups_made + 1)) (groups.parts_of (Requests.most_on made conn) b) made)).fresh ≡ s.fresh
     by None = either _ _ (is_some (connection_to made b.peer) || state.is_dialling made b.peer) refl refl
-    by (Some conn) = keep_each (λ t. t.fresh ≡ s.fresh) (Requests.part_goes_out (Requests.turn_of b.kind) conn (s.groups_made + 1)) (groups.parts_of 1024 b) (λ t p k. part (Requests.turn_of b.kind) conn (s.groups_made + 1) t p k) refl
+    by (Some conn) = keep_each (λ t. t.fresh ≡ s.fresh) (Requests.part_goes_out (Requests.turn_of b.kind) conn (s.groups_made + 1)) (groups.parts_of (Requests.most_on made conn) b) (λ t p k. part (Requests.turn_of b.kind) conn (s.groups_made + 1) t p k) refl
 
 pub settle_fresh : (s : State) → (Requests.settle s).fresh ≡ []
 unfolding Requests.settle Requests.ask_fresh
@@ -136,8 +136,8 @@ shut-before g lent s conn dialled e = (or-none (is_open s conn) (not (Refusals.w
 
 pub rising_begins : (g : Setting) (lent : List ℕ) (outs : List Output) (s : State) (e : Event) → refusal g lent s e ≡ None → Rested s → ((conn : ℕ) → opens conn e ≡ true → flat_map (calls_at conn) outs ≡ []) → Begins g (Rises outs s.calls_made) s e
 rising_begins g lent outs s e taken rested none = record {
-  opens = λ conn dialled is h. opens_rising (record { number = conn; dialled = dialled; peer = None; last = 0; sent = [] })
-      (new-numbers s.connections (record { number = conn; dialled = dialled; peer = None; last = 0; sent = [] }) h.rows (none-found (λ (c : Connection). c.number == conn) s.connections (none-of _ (shut-before g lent s conn dialled (subst (λ d. refusal g lent s d ≡ None) is taken)))))
+  opens = λ conn dialled is h. opens_rising (record { number = conn; dialled = dialled; peer = None; version = 1; last = 0; sent = [] })
+      (new-numbers s.connections (record { number = conn; dialled = dialled; peer = None; version = 1; last = 0; sent = [] }) h.rows (none-found (λ (c : Connection). c.number == conn) s.connections (none-of _ (shut-before g lent s conn dialled (subst (λ d. refusal g lent s d ≡ None) is taken)))))
       (subst (λ notes. sent (calls_at conn) outs notes ≡ []) (sym rested.notes) (sent-none (calls_at conn) outs ∙ none conn (ap (opens conn) is ∙ eq-eqb conn conn refl))) h;
   greets = λ c space is h. greet_rising s c.number space h;
   flushes = λ c space peer is shut h. flush_rising s c space peer is shut h;

@@ -338,6 +338,7 @@ rising_moves g outs top = record {
   parks = λ l s p h. h;
   takes = λ l s p h. h;
   counts = λ l s conn number h. first_rising conn (λ (c : Connection). record c { last = number }) (λ c. refl) (λ c. refl) (λ c e. e) h;
+  versions = λ l s conn version h. first_rising conn (λ (c : Connection). record c { version = version }) (λ c. refl) (λ c. refl) (λ c e. e) h;
   closes = λ l s conn h. closes_rising (λ (c : Connection). not (c.number == conn)) h;
 }
 

@@ -3,7 +3,7 @@ use mathlib.Core.Path.{sym, ap, subst, ◌∙◌}
 use Rattle.std.proofs.Common.{inl, inr}
 use Rattle.std.proofs.lemmas.Bool.{true≢false, eqb-true, eq-eqb}
 use Rattle.std.specs.Str.{bytes_eq}
-use Rattle.std.specs.Prelude.{◌≡◌, ◌⊎◌, refl, ℕ, ◌==◌, ◌&&◌, not, cond, is_some, is_none, Bool, true, false, List, [], ◌∷◌, ◌++◌, Option, None, Some, filter, find, if◌then◌else◌}
+use Rattle.std.specs.Prelude.{◌≡◌, ◌⊎◌, refl, ℕ, ◌==◌, ◌&&◌, not, nat_le, min, cond, is_some, is_none, Bool, true, false, List, [], ◌∷◌, ◌++◌, Option, None, Some, filter, find, if◌then◌else◌}
 use Rattle.net_message.specs.declared.message.Message.{Message}
 use Rattle.net_message.specs.declared.message.Message.TheVariants as message
 use Rattle.space_ids.specs.declared.ids.ClassId.{ClassId}
@@ -21,11 +21,13 @@ use Rattle.sp_rules.specs.State.{State, Living, Origin, OfRoot, OfCall, Connecti
 use Rattle.sp_rules.proofs.AllLemmas.{some-none, found-is}
 use Rattle.sp_rules.proofs.OwnLemmas.{some-same, and-left, and-right}
 use Rattle.sp_laws.specs.Inbound.{opens}
-use Rattle.sp_laws.proofs.FrameFlows.{View, Flows, Begins, EventParts, IsFrom, IsWhoWasDialled}
+use Rattle.sp_laws.proofs.FrameFlows.{View, Flows, Begins, EventParts, FrameParts, IsFrom, IsWhoWasDialled}
 use Rattle.sp_laws.proofs.FrameSteps.{flush_flow}
 use Rattle.sp_laws.proofs.FrameEvents.{on_flow, finish_event_flow}
+use Rattle.sp_laws.specs.Open.{IsSilent}
 use Rattle.sp_laws.proofs.OpenLemmas.{all-unit, all-dialled}
-use Rattle.sp_laws.proofs.ShutLemmas.{has_row, row-ends, connection-ends, ends-so}
+use Rattle.sp_laws.proofs.SilentLemmas.{closes_silent}
+use Rattle.sp_laws.proofs.ShutLemmas.{has_row, row-ends, connection-ends, redial-shuts, ends-so}
 use Rattle.sp_order_laws.specs.Hellos.{brings_on}
 
 -- ---- rows
@@ -118,6 +120,8 @@ view g e conn dialled peer = record {
   Fails = λ c. Unit {0};
   Ends = λ a r. Unit {0};
   Starts = λ o n a. Unit {0};
+  Speaks = λ c version. Unit {0};
+  Fits = λ c ids. Unit {0};
   Keeps = λ l t. IsRowOf conn dialled peer t.connections;
 }
 
@@ -140,7 +144,9 @@ row_flow g e conn dialled peer = record {
   gives = λ p value fuel asked is a b c. tt;
   refuses = λ c n class is. tt;
   finds = λ c n name r is own. tt;
-  quiet = λ l t u eq k. subst (λ (p : EventParts). IsRowOf conn dialled peer p.connections) (sym eq) k;
+  speaks = λ l s conn version is k. tt;
+  fits = λ l s conn ids few k. tt;
+  quiet = λ l t u eq k. subst (λ (p : EventParts). IsRowOf conn dialled peer p.connections) (sym (ap (λ (p : FrameParts). p.parts) eq)) k;
   says = λ l t output is so k. k;
   sends = λ l t turn c m may there held k. k;
   clears = λ t k. k;
@@ -171,6 +177,8 @@ row_flow g e conn dialled peer = record {
   parks_result = λ l t p known is k. k;
   takes = λ l t p k. k;
   takes_call = λ l t p q is call k. k;
+  versions = λ l t c n speaks k. same-row conn c dialled peer (λ (d : Connection). record d { version = n }) (λ d. refl) (λ d. refl) (λ d. refl) t.connections k;
+  notes_peer = λ l s conn c peer space digest same is higher k. k;
   closes = λ l t c d is why k. row-goes conn c dialled peer t.connections k;
 }
 
@@ -180,7 +188,7 @@ FindsPeer e conn peer = brings_on conn e ≡ true → is_some peer ≡ true
 
 row-begin : (g : Setting) (e : Event) (conn : ℕ) (dialled peer : Option Uuid) (s : State) → opens conn e ≡ false → FindsPeer e conn peer → Begins (view g e conn dialled peer) s
 row-begin g e conn dialled peer s apart finds = record {
-  opens = λ c d is k. row-comes conn dialled peer (record { number = c; dialled = d; peer = None; last = 0; sent = [] }) (λ same. absurd (true≢false (sym same ∙ subst (λ x. opens conn x ≡ false) is apart))) s.connections k;
+  opens = λ c d is k. row-comes conn dialled peer (record { number = c; dialled = d; peer = None; version = 1; last = 0; sent = [] }) (λ same. absurd (true≢false (sym same ∙ subst (λ x. opens conn x ≡ false) is apart))) s.connections k;
   parks = λ id n t target method arguments is ready stands k. k;
   looks = λ p name is k. k;
   greets = λ c version space digest is row none same who k. (
@@ -227,19 +235,32 @@ sent-rows conn m t = by (is_open t conn)
     by true = refl
     by false = refl
 
+-- A Hello that is said gives its connection a version, no more.
+says-row : (g : Setting) (n version conn : ℕ) (dialled peer : Option Uuid) (t : State) → IsRowOf conn dialled peer t.connections → IsRowOf conn dialled peer (Frames.say_hello g version n t).connections
+says-row g n version conn dialled peer t k = same-row conn n dialled peer (λ (d : Connection). record d { version = version }) (λ d. refl) (λ d. refl) (λ d. refl) (send Rattle.sp_rules.specs.Events.Hellos n (message.Hello version g.id g.digest) t).connections
+    (subst (λ (cs : List Connection). IsRowOf conn dialled peer cs) (sym (sent-rows n (message.Hello version g.id g.digest) t)) k)
+
 pub row-opens : (g : Setting) (conn : ℕ) (dialled : Option Uuid) (s : State) → is_open s conn ≡ false → IsRowOf conn dialled None (Space.on g (Opened conn dialled) s).0.connections
 unfolding Space.on Space.happen OwnEvents.on_opened
 row-opens g conn dialled s k = finishes g (Opened conn dialled) conn dialled None _ (by dialled)
   where
-    new : IsRowOf conn dialled None (s.connections ++ record { number = conn; dialled = dialled; peer = None; last = 0; sent = [] } ∷ [])
-    new = row-comes conn dialled None (record { number = conn; dialled = dialled; peer = None; last = 0; sent = [] }) (λ same. (refl, refl)) s.connections (none-there conn dialled None s k)
+    new : IsRowOf conn dialled None (s.connections ++ record { number = conn; dialled = dialled; peer = None; version = 1; last = 0; sent = [] } ∷ [])
+    new = row-comes conn dialled None (record { number = conn; dialled = dialled; peer = None; version = 1; last = 0; sent = [] }) (λ same. (refl, refl)) s.connections (none-there conn dialled None s k)
 
-    rows : (d : Option Uuid) → (OwnEvents.dialled_no_more d (OwnEvents.add_connection conn dialled s)).connections ≡ s.connections ++ record { number = conn; dialled = dialled; peer = None; last = 0; sent = [] } ∷ []
+    rows : (d : Option Uuid) → (OwnEvents.dialled_no_more d (OwnEvents.add_connection conn dialled s)).connections ≡ s.connections ++ record { number = conn; dialled = dialled; peer = None; version = 1; last = 0; sent = [] } ∷ []
     rows None = refl
     rows (Some peer) = refl
 
-    by : (d : Option Uuid) → IsRowOf conn dialled None (Frames.say_hello g conn (OwnEvents.dialled_no_more d (OwnEvents.add_connection conn dialled s))).connections
-    by d = subst (λ (cs : List Connection). IsRowOf conn dialled None cs) (sym (sent-rows conn (message.Hello 1 g.id g.digest) (OwnEvents.dialled_no_more d (OwnEvents.add_connection conn dialled s)) ∙ rows d)) new
+    there : (d : Option Uuid) → IsRowOf conn dialled None (OwnEvents.dialled_no_more d (OwnEvents.add_connection conn dialled s)).connections
+    there d = subst (λ (cs : List Connection). IsRowOf conn dialled None cs) (sym (rows d)) new
+
+    by : (d : Option Uuid) → IsRowOf conn dialled None (OwnEvents.first_hello g conn d (OwnEvents.dialled_no_more d (OwnEvents.add_connection conn dialled s))).connections
+    by None = pick (nat_le 2 g.version)
+      where
+        pick : (b : Bool) → IsRowOf conn dialled None (if b then OwnEvents.add_connection conn dialled s else Frames.say_hello g 1 conn (OwnEvents.add_connection conn dialled s)).connections
+        pick true = there None
+        pick false = says-row g conn 1 conn dialled None (OwnEvents.add_connection conn dialled s) (there None)
+    by (Some peer) = says-row g conn _ conn dialled None (OwnEvents.dialled_no_more (Some peer) (OwnEvents.add_connection conn dialled s)) (there (Some peer))
 
 -- ---- a frame comes
 
@@ -253,9 +274,12 @@ pub record IsWelcomed (g : Setting) (conn : ℕ) (dialled : Option Uuid) (m : Me
   pub who : IsWhoWasDialled dialled space
   pub row : IsRowOf conn dialled (Some space) t.connections
 
-closed-so : (g : Setting) (class : ClassId) (conn n : ℕ) (s : State) → n ≡ conn → is_open (Space.finish_event true (Endings.close g class n s)).0 conn ≡ false
+pub closed-so : (g : Setting) (class : ClassId) (conn n : ℕ) (s : State) → n ≡ conn → is_open (Space.finish_event true (Endings.close g class n s)).0 conn ≡ false
 unfolding Endings.close
 closed-so g class conn n s same = subst (λ m. is_open (Space.finish_event true (Endings.close g class m s)).0 conn ≡ false) (sym same) (ends-so g conn (Endings.close g class conn s) (connection-ends g (λ asked. class) conn s))
+
+pub redialled-so : (g : Setting) (peer : Uuid) (conn n : ℕ) (s : State) → n ≡ conn → is_open (Space.finish_event true (Endings.redial peer n s)).0 conn ≡ false
+redialled-so g peer conn n s same = subst (λ m. is_open (Space.finish_event true (Endings.redial peer m s)).0 conn ≡ false) (sym same) (ends-so g conn (Endings.redial peer conn s) (redial-shuts g peer conn s))
 
 -- a first frame
 pub first-comes : (g : Setting) (conn : ℕ) (m : Message) (s : State) (c : Connection) → connection_at s conn ≡ Some c → c.peer ≡ None
@@ -278,17 +302,27 @@ first-comes g conn m s c is none = subst (λ (o : Option Connection). (is_open (
     welcome version space digest t says same who row = inr (record { version = version; space = space; digest = digest; says = says; same = same; who = who; row = finishes g (Received conn m) conn c.dialled (Some space) t row })
 
     hello : (version : ℕ) (space : Uuid) (digest : List ℕ) → m ≡ message.Hello version space digest → (o : Option Uuid) → c.dialled ≡ o
-        → After (with_some o (if bytes_eq digest g.digest then Frames.greeted space c.number s else Endings.close g g.classes.unmarshal c.number s) (λ peer. if bytes_eq digest g.digest && bytes_eq space peer then Requests.flush_waiting peer c.number (Frames.greeted space c.number s) else Endings.close g g.classes.connect c.number s))
-    hello version space digest says None dialled = pick (bytes_eq digest g.digest) refl
+        → After (with_some o (if bytes_eq digest g.digest && nat_le version g.version then Frames.answer_hello g version c.number (Frames.greeted space c.number s) else Endings.close g g.classes.unmarshal c.number s)
+        (λ peer. if bytes_eq digest g.digest && bytes_eq space peer then Frames.answered_hello g c peer version space s else Endings.close g g.classes.connect c.number s))
+    hello version space digest says None dialled = pick (bytes_eq digest g.digest && nat_le version g.version) refl
       where
-        pick : (b : Bool) → bytes_eq digest g.digest ≡ b → After (if b then Frames.greeted space c.number s else Endings.close g g.classes.unmarshal c.number s)
-        pick true e = welcome version space digest _ says e (subst (λ o. IsWhoWasDialled o space) (sym dialled) tt) (named space)
+        answered : (b : Bool) → IsRowOf conn c.dialled (Some space) (if b then Frames.say_hello g (min version g.version) c.number (Frames.greeted space c.number s) else Frames.greeted space c.number s).connections
+        answered true = says-row g c.number (min version g.version) conn c.dialled (Some space) (Frames.greeted space c.number s) (named space)
+        answered false = named space
+
+        pick : (b : Bool) → bytes_eq digest g.digest && nat_le version g.version ≡ b → After (if b then Frames.answer_hello g version c.number (Frames.greeted space c.number s) else Endings.close g g.classes.unmarshal c.number s)
+        pick true e = welcome version space digest _ says (and-left (bytes_eq digest g.digest) (nat_le version g.version) e) (subst (λ o. IsWhoWasDialled o space) (sym dialled) tt) (answered (nat_le 2 g.version))
         pick false e = inl (closed-so g g.classes.unmarshal conn c.number s number)
     hello version space digest says (Some peer) dialled = pick (bytes_eq digest g.digest && bytes_eq space peer) refl
       where
-        pick : (b : Bool) → bytes_eq digest g.digest && bytes_eq space peer ≡ b → After (if b then Requests.flush_waiting peer c.number (Frames.greeted space c.number s) else Endings.close g g.classes.connect c.number s)
-        pick true e = welcome version space digest _ says (and-left (bytes_eq digest g.digest) (bytes_eq space peer) e) (subst (λ o. IsWhoWasDialled o space) (sym dialled) (and-right (bytes_eq digest g.digest) (bytes_eq space peer) e))
+        known : bytes_eq digest g.digest && bytes_eq space peer ≡ true → (v r : Bool) → After (if v then Requests.flush_waiting peer c.number (Frames.greeted space c.number s) else (if r then Endings.redial peer c.number s else Endings.close g g.classes.unmarshal c.number s))
+        known e false true = inl (redialled-so g peer conn c.number s number)
+        known e false false = inl (closed-so g g.classes.unmarshal conn c.number s number)
+        known e true r = welcome version space digest _ says (and-left (bytes_eq digest g.digest) (bytes_eq space peer) e) (subst (λ o. IsWhoWasDialled o space) (sym dialled) (and-right (bytes_eq digest g.digest) (bytes_eq space peer) e))
             (flush_flow (row_flow g (Received conn m) conn c.dialled (Some space)) {l = []} peer c.number tt (named space))
+
+        pick : (b : Bool) → bytes_eq digest g.digest && bytes_eq space peer ≡ b → After (if b then Frames.answered_hello g c peer version space s else Endings.close g g.classes.connect c.number s)
+        pick true e = known e (version == c.version) (nat_le 2 c.version && version == 1)
         pick false e = inl (closed-so g g.classes.connect conn c.number s number)
 
     first : (n : Message) → m ≡ n → After (Frames.first_frame g c n s)
@@ -319,3 +353,27 @@ hello-again g conn version space digest s c is some = subst (λ (o : Option Conn
     by : (b : Bool) → is_none c.peer ≡ b → is_open (Space.finish_event true (if is_none c.peer then Frames.first_frame g c (message.Hello version space digest) s else (if Frames.is_wrong_way false (is_some c.dialled) then Endings.close g g.classes.unmarshal c.number s else Endings.close g g.classes.unmarshal c.number s))).0 conn ≡ false
     by true e = absurd (both c.peer e some)
     by false e = subst (λ (d : Bool). is_open (Space.finish_event true (if d then Frames.first_frame g c (message.Hello version space digest) s else (if Frames.is_wrong_way false (is_some c.dialled) then Endings.close g g.classes.unmarshal c.number s else Endings.close g g.classes.unmarshal c.number s))).0 conn ≡ false) (sym e) (shut (Frames.is_wrong_way false (is_some c.dialled)))
+
+-- which says nothing there
+pub again-silent : (g : Setting) (conn version : ℕ) (space : Uuid) (digest : List ℕ) (s : State) (c : Connection) → s.notes ≡ [] → connection_at s conn ≡ Some c → is_some c.peer ≡ true
+    → IsSilent conn (Space.on g (Received conn (message.Hello version space digest)) s).1
+unfolding Space.on Space.happen Frames.receive Frames.got
+again-silent g conn version space digest s c nothing is some = subst (λ (o : Option Connection). IsSilent conn (Space.finish_event true (OwnEvents.received_on g o (message.Hello version space digest) s)).1) (sym is) (by (is_none c.peer) refl)
+  where
+    number : c.number ≡ conn
+    number = eqb-true c.number conn (found-is (λ (d : Connection). d.number == conn) s.connections c is)
+
+    both : (o : Option Uuid) → is_none o ≡ true → is_some o ≡ true → ⊥
+    both None a b = true≢false (sym b)
+    both (Some x) a b = true≢false (sym a)
+
+    silent-so : IsSilent conn (Space.finish_event true (Endings.close g g.classes.unmarshal c.number s)).1
+    silent-so = subst (λ n. IsSilent conn (Space.finish_event true (Endings.close g g.classes.unmarshal n s)).1) (sym number) (closes_silent g (message.Hello version space digest) g.classes.unmarshal conn s nothing)
+
+    shut : (b : Bool) → IsSilent conn (Space.finish_event true (if b then Endings.close g g.classes.unmarshal c.number s else Endings.close g g.classes.unmarshal c.number s)).1
+    shut true = silent-so
+    shut false = silent-so
+
+    by : (b : Bool) → is_none c.peer ≡ b → IsSilent conn (Space.finish_event true (if is_none c.peer then Frames.first_frame g c (message.Hello version space digest) s else (if Frames.is_wrong_way false (is_some c.dialled) then Endings.close g g.classes.unmarshal c.number s else Endings.close g g.classes.unmarshal c.number s))).1
+    by true e = absurd (both c.peer e some)
+    by false e = subst (λ (d : Bool). IsSilent conn (Space.finish_event true (if d then Frames.first_frame g c (message.Hello version space digest) s else (if Frames.is_wrong_way false (is_some c.dialled) then Endings.close g g.classes.unmarshal c.number s else Endings.close g g.classes.unmarshal c.number s))).1) (sym e) (shut (Frames.is_wrong_way false (is_some c.dialled)))

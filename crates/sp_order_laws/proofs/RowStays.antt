@@ -39,6 +39,8 @@ row_view g e h = record {
   Fails = λ c. Unit {0};
   Ends = λ a r. Unit {0};
   Starts = λ o n a. Unit {0};
+  Speaks = λ c version. Unit {0};
+  Fits = λ c ids. Unit {0};
   Keeps = λ l s. AllOf (Row (e ∷ h)) s.connections;
 }
 
@@ -65,6 +67,8 @@ row_flow g e h = record {
   gives = λ p value fuel asked is a b c. tt;
   refuses = λ c n class is. tt;
   finds = λ c n name r is own. tt;
+  speaks = λ c version. tt;
+  fits = λ c ids. tt;
   quiet = λ l s t eq k. subst (λ (c : EventParts). AllOf (Row (e ∷ h)) c.connections) (sym eq) k;
   says = λ l s output is so k. k;
   sends = λ l s turn c m may held k. k;
@@ -101,7 +105,7 @@ row_flow g e h = record {
 
 row-begin : (g : Setting) (s : State) (e : Event) (h : List Event) → Begins (row_view g e h) s
 row-begin g s e h = record {
-  opens = λ c dialled is k. all-more (Row (e ∷ h)) s.connections (record { number = c; dialled = dialled; peer = None; last = 0; sent = [] }) k (inl (sym is));
+  opens = λ c dialled is k. all-more (Row (e ∷ h)) s.connections (record { number = c; dialled = dialled; peer = None; version = 1; last = 0; sent = [] }) k (inl (sym is));
   parks = λ id n t target method arguments is ready stands k. k;
   looks = λ peer name is k. k;
   roots = λ method arguments fuel is. tt;
@@ -149,7 +153,7 @@ stays-open ways results g h e conn taken once off live = left (happen_s g s e (b
     A = aim conn (λ m. false) 0
 
     row : ℕ → Option Uuid → Connection
-    row n dialled = record { number = n; dialled = dialled; peer = None; last = 0; sent = [] }
+    row n dialled = record { number = n; dialled = dialled; peer = None; version = 1; last = 0; sent = [] }
 
     begun : P A s
     begun = start-of ways results g h A taken once (nothing (came_on conn h)) s.connections (λ x. live) (omega arith) (all-unit s.parked)
@@ -170,7 +174,7 @@ opens-open ways results g h conn dialled taken once = left (happen_s g s (Opened
     A = aim conn (λ m. false) 0
 
     row : ℕ → Option Uuid → Connection
-    row n d = record { number = n; dialled = d; peer = None; last = 0; sent = [] }
+    row n d = record { number = n; dialled = d; peer = None; version = 1; last = 0; sent = [] }
 
     number-of : Event → ℕ
     number-of (Opened n d) = n

@@ -56,7 +56,7 @@ parked_frames_came ways results g (e ∷ h) taken once = left (happen_s g s e (b
     A = record { conn = elsewhere e; is = λ m. false; sent = 0; live = false; May = λ n m. Unit {0}; plain = λ n m f. tt; Frame = λ p. CameAsFrame (e ∷ h) p p.frame }
 
     row : ℕ → Option Uuid → Connection
-    row n dialled = record { number = n; dialled = dialled; peer = None; last = 0; sent = [] }
+    row n dialled = record { number = n; dialled = dialled; peer = None; version = 1; last = 0; sent = [] }
 
     begun : AllOf (λ (p : ParkedFrame). CameAsFrame h p p.frame) s.parked → P A s
     begun came = start-of ways results g h A taken.1 once.1 (nothing (came_on A.conn h)) s.connections (λ f. absurd (true≢false (sym f))) (omega arith) (all-weaken (λ (p : ParkedFrame). CameAsFrame h p p.frame) A.Frame s.parked (λ p k. came-later e h p p.frame k) came)

@@ -10,7 +10,6 @@ use Rattle.net_message.specs.declared.message.Message.{Message}
 use Rattle.net_message.specs.declared.message.Message.TheVariants as message
 use Rattle.space_ids.specs.declared.value.Value.{Value}
 use Rattle.sp_rules.specs.Classes.{Setting}
-use Rattle.sp_rules.specs.Events.{Opened}
 use Rattle.sp_rules.specs.Laws.{AllOf}
 use Rattle.sp_rules.specs.Lists.{total}
 use Rattle.sp_rules.specs.ParkedFrames.{is_out_on, has_number}
@@ -44,7 +43,7 @@ use Rattle.sp_order_laws.proofs.WelcomeLemmas.{Facts, one-some, one-left, one-ri
 use Rattle.std.proofs.lemmas.Slice.Eq.{bytes_eq-Decides}
 use Rattle.sp_laws.specs.AllSpaces.{IsInOrder, SpacesAreInOrder}
 use Rattle.sp_order_laws.specs.Answering.{Exchange}
-use Rattle.sp_order_laws.proofs.WelcomeFrames.{row-opened}
+use Rattle.sp_order_laws.proofs.WelcomeFrames.{row-opened, ends-open}
 use Rattle.sp_order_laws.proofs.WelcomeLemmas.{went, opened-as}
 use Rattle.sp_order_laws.proofs.SenderLemmas.{parked_frames_came, counts-there, names_as, IsNaming, naming-of}
 
@@ -106,12 +105,12 @@ calls-none : (k : ℕ) (ms : List Message) → times_answered CallReply k ms ≡
 calls-none k ms none = all-known (AnswersNone (calls_as k)) ms (λ x o. none-answers k x (λ le. let y : 1 ≤ times_answered CallReply k ms = answers-one CallReply k x ms o le in absurd (omega (arith, none))))
 
 -- what asked it
-asks-it : {settings : List Setting} {w : World} (F : Facts settings w) (live : (i : ℕ) (s : Space) → slice_get w.spaces i ≡ Some s → (n : ℕ) (d : Option Uuid) → IsOneOf (Opened n d) s.history → is_open s.state n ≡ true) (conn k : ℕ) (p : Pipe) (a b : Space) (target : ObjId) (method fuel : ℕ) (arguments : List Value)
+asks-it : {settings : List Setting} {w : World} (F : Facts settings w) (conn k : ℕ) (p : Pipe) (a b : Space) (target : ObjId) (method fuel : ℕ) (arguments : List Value)
     → WasSent w conn k p a b target method fuel arguments → (names : ObjId → List Value → Bool) → names target arguments ≡ true → (q : Request) × (IsOneOf q a.state.requests × IsNaming conn k names q)
-asks-it {settings} {w} F live conn k p a b target method fuel arguments S names named = (found.0, (found.1.0, naming-of conn k names found.0 (all-at (λ (q : Request). IsSaid q.asked) found.0 a.state.requests found.1.0 (at-all _ p.dialler.space w.spaces a S.between.dialled F.said)) found.1.1))
+asks-it {settings} {w} F conn k p a b target method fuel arguments S names named = (found.0, (found.1.0, naming-of conn k names found.0 (all-at (λ (q : Request). IsSaid q.asked) found.0 a.state.requests found.1.0 (at-all _ p.dialler.space w.spaces a S.between.dialled F.said)) found.1.1))
   where
     opened-conn : is_open a.state conn ≡ true
-    opened-conn = let x = opened-as a.history conn true (went a.history conn (message.Call k target method fuel arguments) a.outputs (at-all HasDirections p.dialler.space w.spaces a S.between.dialled F.directions).sent S.sent) in live p.dialler.space a S.between.dialled conn x.0 x.1.1
+    opened-conn = let x = opened-as a.history conn true (went a.history conn (message.Call k target method fuel arguments) a.outputs (at-all HasDirections p.dialler.space w.spaces a S.between.dialled F.directions).sent S.sent) in (ends-open F conn p a b (message.Call k target method fuel arguments) S.between refl (inl S.sent)).0 x.0 x.1.1
 
     one : asks_for (names_as k names) (message.Call k target method fuel arguments) ≡ 1
     one = both (k == k) (eq-eqb k k refl) (names target arguments) named
@@ -208,9 +207,9 @@ one-in x (y ∷ ys) (inr o) = or-right (is_same_reference x y) (is_reference_in 
 
 -- ---- the caller holds
 
-caller-holds : {settings : List Setting} {w : World} (F : Facts settings w) (order : AllOf IsInOrder w.spaces) (live : (i : ℕ) (s : Space) → slice_get w.spaces i ≡ Some s → (n : ℕ) (d : Option Uuid) → IsOneOf (Opened n d) s.history → is_open s.state n ≡ true) (conn k : ℕ) (p : Pipe) (a b : Space) (target : ObjId) (method fuel : ℕ) (arguments : List Value)
+caller-holds : {settings : List Setting} {w : World} (F : Facts settings w) (order : AllOf IsInOrder w.spaces) (conn k : ℕ) (p : Pipe) (a b : Space) (target : ObjId) (method fuel : ℕ) (arguments : List Value)
     → WasSent w conn k p a b target method fuel arguments → CallerHolds a b target arguments
-caller-holds {settings} {w} F order live conn k p a b target method fuel arguments S = record {
+caller-holds {settings} {w} F order conn k p a b target method fuel arguments S = record {
   task = N.task;
   row = row.0;
   lives = row.1.0;
@@ -225,7 +224,7 @@ caller-holds {settings} {w} F order live conn k p a b target method fuel argumen
     I = at-all IsInOrder p.dialler.space w.spaces a S.between.dialled order
 
     ask : (names : ObjId → List Value → Bool) → names target arguments ≡ true → (q : Request) × (IsOneOf q a.state.requests × IsNaming conn k names q)
-    ask names named = asks-it F live conn k p a b target method fuel arguments S names named
+    ask names named = asks-it F conn k p a b target method fuel arguments S names named
 
     by-target : ObjId → List Value → Bool
     by-target t args = t.0 == target.0
@@ -322,13 +321,13 @@ self-count conn k = both (conn == conn) (eq-eqb conn conn refl) (k == k) (eq-eqb
     both false e d f = absurd (true≢false (sym e))
 
 calls-hold : {settings : List Setting} {w : World} (F : Facts settings w) (order : AllOf IsInOrder w.spaces) (came : AllOf (λ (s : Space). AllOf (λ (x : ParkedFrame). CameAsFrame s.history x x.frame) s.state.parked) w.spaces)
-    (live : (i : ℕ) (s : Space) → slice_get w.spaces i ≡ Some s → (n : ℕ) (d : Option Uuid) → IsOneOf (Opened n d) s.history → is_open s.state n ≡ true) → CallsAreHeldIn w
-calls-hold {settings} {w} F order came live conn k p a b target method fuel arguments between (inl o) = caller-holds F order live conn k p a b target method fuel arguments (record {
+    → CallsAreHeldIn w
+calls-hold {settings} {w} F order came conn k p a b target method fuel arguments between (inl o) = caller-holds F order conn k p a b target method fuel arguments (record {
   between = between;
   sent = sent-there F conn p Accepter b a (message.Call k target method fuel arguments) between.pipe between.accepted between.dialled (one-right (message.Call k target method fuel arguments) (came_on conn b.history) p.accepter.queue o);
   unanswered = once-of F conn k p a b between (let x : 1 ≤ times_asked CallReply k p.accepter.queue = asked-one CallReply k (message.Call k target method fuel arguments) p.accepter.queue o (let z : count (k == k) ≡ 1 = count-self k in omega arith) in omega arith);
 })
-calls-hold {settings} {w} F order came live conn k p a b target method fuel arguments between (inr o) = wider (all-at (λ (x : ParkedFrame). CameAsFrame b.history x x.frame) (record { conn = conn; number = k; frame = CallFrame target method fuel arguments; references = o.0 }) b.state.parked o.1 (at-all _ p.accepter.space w.spaces b between.accepted came))
+calls-hold {settings} {w} F order came conn k p a b target method fuel arguments between (inr o) = wider (all-at (λ (x : ParkedFrame). CameAsFrame b.history x x.frame) (record { conn = conn; number = k; frame = CallFrame target method fuel arguments; references = o.0 }) b.state.parked o.1 (at-all _ p.accepter.space w.spaces b between.accepted came))
   where
     parked-one : 1 ≤ under_way CallReply conn k b.state
     parked-one = let x : Rattle.sp_order_laws.specs.Answering.parked_for CallReply conn k (record { conn = conn; number = k; frame = CallFrame target method fuel arguments; references = o.0 }) ≤ total (Rattle.sp_order_laws.specs.Answering.parked_for CallReply conn k) b.state.parked = one-total (Rattle.sp_order_laws.specs.Answering.parked_for CallReply conn k) (record { conn = conn; number = k; frame = CallFrame target method fuel arguments; references = o.0 }) b.state.parked o.1 in
@@ -336,7 +335,7 @@ calls-hold {settings} {w} F order came live conn k p a b target method fuel argu
 
     wider : (id : ObjId) × ((is_id target id ≡ true) × IsOneOf (message.Call k id method fuel arguments) (came_on conn b.history)) → CallerHolds a b target arguments
     wider x =
-        let h = caller-holds F order live conn k p a b x.0 method fuel arguments (record {
+        let h = caller-holds F order conn k p a b x.0 method fuel arguments (record {
           between = between;
           sent = sent-there F conn p Accepter b a (message.Call k x.0 method fuel arguments) between.pipe between.accepted between.dialled (one-left (message.Call k x.0 method fuel arguments) (came_on conn b.history) p.accepter.queue x.1.1);
           unanswered = once-of F conn k p a b between (let y : 1 ≤ under_way CallReply conn k b.state = parked-one in omega arith);
@@ -345,8 +344,8 @@ calls-hold {settings} {w} F order came live conn k p a b target method fuel argu
 
 -- ---- results
 
-results-hold : {settings : List Setting} {w : World} (F : Facts settings w) (live : (i : ℕ) (s : Space) → slice_get w.spaces i ≡ Some s → (n : ℕ) (d : Option Uuid) → IsOneOf (Opened n d) s.history → is_open s.state n ≡ true) → ResultsAreHeldIn w
-results-hold {settings} {w} F live conn k p a b fuel value between where-it-is = by where-it-is
+results-hold : {settings : List Setting} {w : World} (F : Facts settings w) → ResultsAreHeldIn w
+results-hold {settings} {w} F conn k p a b fuel value between where-it-is = by where-it-is
   where
     kept : IsOneOf (message.Returned k fuel value) (sent_on conn b.outputs) → 1 ≤ times_asked ResultAck k p.dialler.queue + under_way ResultAck conn k a.state → IsOneOf (record { until = Acked conn k; value = value }) b.state.results
     kept sent le =
@@ -354,7 +353,7 @@ results-hold {settings} {w} F live conn k p a b fuel value between where-it-is =
         let once : times_asked ResultAck k p.dialler.queue + (under_way ResultAck conn k a.state + times_answered ResultAck k (came_on conn b.history ++ p.accepter.queue)) ≤ 1 = F.results.once conn k p a b between in
         let y : times_answered ResultAck k (came_on conn b.history ++ p.accepter.queue) ≡ times_answered ResultAck k (came_on conn b.history) + times_answered ResultAck k p.accepter.queue = answers-both ResultAck k (came_on conn b.history) p.accepter.queue in
         let none : times_answered ResultAck k (came_on conn b.history) ≡ 0 = omega (arith, le) in
-        at-all _ p.accepter.space w.spaces b between.accepted F.waits conn k fuel value (live p.accepter.space b between.accepted conn x.0 x.1.1) sent
+        at-all _ p.accepter.space w.spaces b between.accepted F.waits conn k fuel value ((ends-open F conn p a b (message.Returned k fuel value) between refl (inr sent)).1 x.0 x.1.1) sent
         (all-known (λ (m : Message). m ≡ message.Ack k → ⊥) (came_on conn b.history) (λ m o e. let z : 1 ≤ times_answered ResultAck k (came_on conn b.history) = answers-one ResultAck k m (came_on conn b.history) o (subst (λ v. 1 ≤ times k (answered_in ResultAck v)) (sym e) (let u : count (k == k) ≡ 1 = count-self k in omega arith)) in absurd (omega (arith, none))))
 
     by : IsOneOf (message.Returned k fuel value) p.dialler.queue ⊎ ((references : List ForeignId) × IsOneOf (record { conn = conn; number = k; frame = ReturnedFrame value fuel; references = references }) a.state.parked) → IsOneOf (record { until = Acked conn k; value = value }) b.state.results
@@ -370,7 +369,7 @@ pub parked-all : Laws → (w : World) → AllOf Known w.spaces → AllOf (λ (s 
 parked-all L w known = all-weaken Known _ w.spaces (λ s k. subst (λ (t : State). AllOf (λ (x : ParkedFrame). CameAsFrame s.history x x.frame) t.parked) (sym k.state) (parked_frames_came L.ways L.parked s.setting s.history k.taken k.once)) known
 
 pub senders_hold : Laws → SpacesAreInOrder → SendersHold
-senders_hold L order settings events kind fine = record { calls = calls-hold F (order settings events) (parked-all L (run (new_world settings) events) h.known) h.stays; results = results-hold F h.stays }
+senders_hold L order settings events kind fine = record { calls = calls-hold F (order settings events) (parked-all L (run (new_world settings) events) h.known); results = results-hold F }
   where
     h : Rattle.sp_order_laws.proofs.WorldStays.Standing settings (run (new_world settings) events)
     h = standing-of L settings events kind fine

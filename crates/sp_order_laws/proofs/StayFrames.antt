@@ -17,7 +17,7 @@ use Rattle.sp_registry.specs.Bindings as registry
 use Rattle.sp_rules.specs.Behaviours.{Reply, Throws}
 use Rattle.sp_rules.specs.Classes.{Setting, fit_kinds}
 use Rattle.sp_rules.specs.Endings
-use Rattle.sp_rules.specs.Events.{Event, Moment, Sweep, Root, RootAck, Bind, Rebind, Unbind, Lookup, Opened, Refused, Received, Closed, ReadFailed, Bad, WriteFailed, Committed, Parked, GivenBack, Finished, Close}
+use Rattle.sp_rules.specs.Events.{Replies, Event, Moment, Sweep, Root, RootAck, Bind, Rebind, Unbind, Lookup, Opened, Refused, Received, Closed, ReadFailed, Bad, WriteFailed, Committed, Parked, GivenBack, Finished, Close}
 use Rattle.sp_rules.specs.Frames
 use Rattle.sp_rules.specs.Holders
 use Rattle.sp_rules.specs.Lists.{with_some}
@@ -29,12 +29,12 @@ use Rattle.sp_rules.specs.Space
 use Rattle.sp_rules.specs.State as state
 use Rattle.sp_rules.specs.State.{State, Object, OfRoot, Request, Asked, Calls, LooksUp, Tells, Connection, CallFrame, ReturnedFrame, connection_at, is_open, send}
 use Rattle.sp_rules.proofs.AllLemmas.{all-weaken, found-is}
-use Rattle.sp_laws.proofs.ShutLemmas.{connection-ends}
+use Rattle.sp_laws.proofs.ShutLemmas.{connection-ends, redial-shuts}
 use Rattle.sp_order_laws.proofs.RisingMoves.{IsSaid}
 use Rattle.sp_order_laws.specs.Asked.{AnswersNone}
 use Rattle.sp_order_laws.specs.Welcome.{is_welcome_first, is_welcome_later, is_welcome}
 use Rattle.sp_order_laws.proofs.StayMoves.{Aim, P, Spares, SparesTold, fewer_s, told-none, first_s, answered_s}
-use Rattle.sp_order_laws.proofs.StayRules.{if_s, some_s, send_s, send_may, add_task_s, keep_s, reply_to_s, commit_s, give_back_s, park_s, finish_s, calls_go_s, go_all_s, park_frame_s, end_connection_s, flush_s, release_s, moment_s, sweep_s, names_s, lookup_s, opened_s, refused_s}
+use Rattle.sp_order_laws.proofs.StayRules.{if_s, some_s, send_s, send_may, add_task_s, keep_s, reply_to_s, commit_s, give_back_s, park_s, finish_s, calls_go_s, go_all_s, park_frame_s, end_connection_s, flush_s, release_s, moment_s, sweep_s, names_s, lookup_s, redial_s, say_hello_s, opened_s, refused_s}
 
 -- ---- closing
 
@@ -66,18 +66,30 @@ first_frame_s {A} {s} g c (message.Hello version space digest) h = by c.dialled
     greeted : P A (Frames.greeted space c.number s)
     greeted = record { stays = first_s c.number (λ (d : Connection). record d { peer = Some space }) (λ d. refl) h.stays }
 
-    by : (o : Option Uuid) → Ends A c.number (with_some o (bytes_eq digest g.digest) (λ peer. bytes_eq digest g.digest && bytes_eq space peer)) (with_some o (if bytes_eq digest g.digest then Frames.greeted space c.number s else Endings.close g g.classes.unmarshal c.number s)
-        (λ peer. if bytes_eq digest g.digest && bytes_eq space peer then Requests.flush_waiting peer c.number (Frames.greeted space c.number s) else Endings.close g g.classes.connect c.number s))
-    by None = pick (bytes_eq digest g.digest)
+    redialled : (peer : Uuid) → Ends A c.number false (Endings.redial peer c.number s)
+    redialled peer = by (c.number == A.conn) refl
       where
-        pick : (b : Bool) → Ends A c.number b (if b then Frames.greeted space c.number s else Endings.close g g.classes.unmarshal c.number s)
-        pick true = inl greeted
+        by : (b : Bool) → (c.number == A.conn) ≡ b → Ends A c.number false (Endings.redial peer c.number s)
+        by true e = let same : c.number ≡ A.conn = eqb-true c.number A.conn e in inr (refl, (same, subst (λ x. is_open (Endings.redial peer c.number s) x ≡ false) same (redial-shuts g peer c.number s)))
+        by false e = inl (redial_s peer c.number e h)
+
+    by : (o : Option Uuid) → Ends A c.number (with_some o (bytes_eq digest g.digest && nat_le version g.version) (λ peer. bytes_eq digest g.digest && bytes_eq space peer && version == c.version))
+        (with_some o (if bytes_eq digest g.digest && nat_le version g.version then Frames.answer_hello g version c.number (Frames.greeted space c.number s) else Endings.close g g.classes.unmarshal c.number s)
+        (λ peer. if bytes_eq digest g.digest && bytes_eq space peer then Frames.answered_hello g c peer version space s else Endings.close g g.classes.connect c.number s))
+    by None = pick (bytes_eq digest g.digest && nat_le version g.version)
+      where
+        pick : (b : Bool) → Ends A c.number b (if b then Frames.answer_hello g version c.number (Frames.greeted space c.number s) else Endings.close g g.classes.unmarshal c.number s)
+        pick true = inl (if_s (nat_le 2 g.version) (say_hello_s g _ c.number greeted) greeted)
         pick false = close_s g g.classes.unmarshal c.number false refl h
-    by (Some peer) = pick (bytes_eq digest g.digest && bytes_eq space peer)
+    by (Some peer) = pick (bytes_eq digest g.digest) (bytes_eq space peer) (version == c.version) (nat_le 2 c.version && version == 1)
       where
-        pick : (b : Bool) → Ends A c.number b (if b then Requests.flush_waiting peer c.number (Frames.greeted space c.number s) else Endings.close g g.classes.connect c.number s)
-        pick true = inl (flush_s peer c.number greeted)
-        pick false = close_s g g.classes.connect c.number false refl h
+        -- of the digest, of the peer, of the version, of a peer of version 1 alone
+        pick : (a b v r : Bool) → Ends A c.number (a && b && v) (if a && b then (if v then Requests.flush_waiting peer c.number (Frames.greeted space c.number s) else (if r then Endings.redial peer c.number s else Endings.close g g.classes.unmarshal c.number s)) else Endings.close g g.classes.connect c.number s)
+        pick true true true r = inl (flush_s peer c.number greeted)
+        pick true true false true = redialled peer
+        pick true true false false = close_s g g.classes.unmarshal c.number false refl h
+        pick true false v r = close_s g g.classes.connect c.number false refl h
+        pick false b v r = close_s g g.classes.connect c.number false refl h
 first_frame_s g c (message.Call number object method fuel arguments) h = close_s g _ c.number false refl h
 first_frame_s g c (message.Returned number fuel value) h = close_s g _ c.number false refl h
 first_frame_s g c (message.Threw number class) h = close_s g _ c.number false refl h
@@ -170,6 +182,11 @@ told_by_s {A} {s} g c dirty sequence event spares h = by (find (Frames.tells_on 
 abbrev pub ComesBeside : Aim → ℕ → Message → Type 0
 ComesBeside A n m = (n == A.conn) ≡ true → AnswersNone A.is m
 
+-- a dirty or clean call is answered if it fits, else the connection ends
+fit_s : {A : Aim} {s t : State} (g : Setting) (c : Connection) (fits : Bool) → P A t → P A s → Ends A c.number fits (if fits then t else Endings.close g g.classes.unmarshal c.number s)
+fit_s g c true told h = inl told
+fit_s g c false told h = close_s g g.classes.unmarshal c.number false refl h
+
 got_s : {A : Aim} {s : State} (g : Setting) (c : Connection) (m : Message) → ComesBeside A c.number m → MayTell A c.number m → P A s → Ends A c.number (is_welcome_later s c m) (Frames.got g c m s)
 unfolding Frames.got Frames.got_dirty Frames.got_clean
 got_s g c (message.Hello version space digest) beside tells h = close_s g _ c.number false refl h
@@ -178,9 +195,9 @@ got_s g c (message.Returned number fuel value) beside tells h = answered_by_s g 
 got_s g c (message.Threw number class) beside tells h = answered_by_s g c number _ (λ asked. ends_as_s g c number (λ a. Frames.thrown_reply g class) asked beside h) h
 got_s g c (message.Spent number) beside tells h = answered_by_s g c number _ (λ asked. ends_as_s g c number (Frames.spent_reply g) asked beside h) h
 got_s g c (message.Ack number) beside tells h = got_ack_s g c number h
-got_s g c (message.Dirty sequence period objects) beside tells h = inl (send_may _ c.number _ refl tells (record { stays = h.stays }))
+got_s g c (message.Dirty sequence period objects) beside tells h = fit_s g c (Frames.fit_frame c objects) (send_may Replies c.number _ refl tells (record { stays = h.stays })) h
 got_s g c (message.Lease sequence period) beside tells h = told_by_s g c true sequence (λ call. lease_events.DirtyAnswered call period) beside h
-got_s g c (message.Clean sequence strong objects) beside tells h = inl (send_may _ c.number _ refl tells (record { stays = h.stays }))
+got_s g c (message.Clean sequence strong objects) beside tells h = fit_s g c (Frames.fit_frame c objects) (send_may Replies c.number _ refl tells (record { stays = h.stays })) h
 got_s g c (message.Cleaned sequence) beside tells h = told_by_s g c false sequence lease_events.CleanAnswered beside h
 got_s g c (message.Lookup number name) beside tells h = got_lookup_s g c number name h
 

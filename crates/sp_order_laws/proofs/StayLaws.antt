@@ -296,7 +296,7 @@ asked-of ways results g (e ∷ h) conn is taken once live none = left (happen_s 
     kept false f earlier quiet = start-of ways results g h A taken.1 once.1 before s.connections (λ x. was-live f) (earlier (was-live f)) (all-unit s.parked)
 
     row : ℕ → Option Uuid → Connection
-    row n dialled = record { number = n; dialled = dialled; peer = None; last = 0; sent = [] }
+    row n dialled = record { number = n; dialled = dialled; peer = None; version = 1; last = 0; sent = [] }
 
     opens-it : (b : Bool) → opens conn e ≡ b → (is_open s conn ≡ true → A.sent ≤ total (out_on conn is) s.requests) → (n : ℕ) (dialled : Option Uuid) → e ≡ Opened n dialled → P A (OwnEvents.add_connection n dialled s)
     opens-it true f earlier n dialled same =
@@ -424,7 +424,7 @@ is-elsewhere (Rattle.sp_rules.specs.Events.Finished task k) f = true≢false (sy
 
 pub leases_answer_dirty_calls : FramesGoTheirWay → ParkedResultsCame → LeasesAnswerDirtyCalls
 unfolding Space.outputs_of Space.on in_order
-leases_answer_dirty_calls ways results g h e taken once = answers (Space.answers_outputs e) (happen_s g s e (beside e refl) (λ n dialled same. begun (s.connections ++ record { number = n; dialled = dialled; peer = None; last = 0; sent = [] } ∷ [])) (λ quiet. begun s.connections))
+leases_answer_dirty_calls ways results g h e taken once = answers (Space.answers_outputs e) (happen_s g s e (beside e refl) (λ n dialled same. begun (s.connections ++ record { number = n; dialled = dialled; peer = None; version = 1; last = 0; sent = [] } ∷ [])) (λ quiet. begun s.connections))
   where
     s : State
     s = Space.state_of g h

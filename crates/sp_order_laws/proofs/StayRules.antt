@@ -1,7 +1,7 @@
 -- Requests that stay: each rule keeps what is sent and not answered among them, up to the frames that come.
 use mathlib.Core.Path.{ap}
 use Rattle.std.proofs.Common.{arith}
-use Rattle.std.specs.Prelude.{◌≡◌, ◌≤◌, refl, ℕ, ◌+◌, ◌==◌, ◌&&◌, ◌||◌, nat_lt, is_some, is_none, Bool, true, false, List, [], ◌∷◌, Option, None, Some, Result, Ok, Err, filter, find, if◌then◌else◌}
+use Rattle.std.specs.Prelude.{◌≡◌, ◌≤◌, refl, ℕ, ◌+◌, ◌==◌, ◌&&◌, ◌||◌, nat_lt, nat_le, is_some, is_none, Bool, true, false, List, [], ◌∷◌, Option, None, Some, Result, Ok, Err, filter, find, if◌then◌else◌}
 use Rattle.space_ids.specs.declared.ids.ClassId.{ClassId}
 use Rattle.space_ids.specs.declared.ids.ForeignId.{ForeignId}
 use Rattle.space_ids.specs.declared.ids.ObjId.{ObjId}
@@ -21,7 +21,7 @@ use Rattle.sp_registry.specs.declared.registry.Binding.{Binding}
 use Rattle.sp_rules.specs.Behaviours.{Outcome, Returned, Threw, Spent, Op, Create, Get, Put, Call, Reply, GivesBack, Throws}
 use Rattle.sp_rules.specs.Classes.{Setting}
 use Rattle.sp_rules.specs.Endings
-use Rattle.sp_rules.specs.Events.{Ended, Dial, Turn, Sends, Says, Hellos, Replies, Output}
+use Rattle.sp_rules.specs.Events.{Ended, Dial, Close, Turn, Sends, Says, Hellos, Replies, Output}
 use Rattle.sp_rules.specs.Frames
 use Rattle.sp_rules.specs.Holders
 use Rattle.sp_rules.specs.Holders.{hold_ids, drop_ids}
@@ -40,7 +40,7 @@ use Rattle.sp_laws.specs.CallSent.{is_send}
 use Rattle.sp_order_laws.proofs.RisingHistories.{keep_each}
 use Rattle.sp_order_laws.proofs.RisingMoves.{IsSaid}
 use Rattle.sp_order_laws.specs.Asked.{is_request, out_on}
-use Rattle.sp_order_laws.proofs.StayMoves.{Aim, is_told, P, noted, Spares, SparesFrame, SparesParked, notes_s, quiet-note, more_s, out_s, fewer_s, call-none, waits-none, other-none, others_s, parks_s, takes_s, fresh_s}
+use Rattle.sp_order_laws.proofs.StayMoves.{Aim, is_told, P, noted, Spares, SparesFrame, SparesParked, notes_s, quiet-note, more_s, out_s, fewer_s, call-none, waits-none, other-none, others_s, parks_s, takes_s, fresh_s, first_s}
 
 -- ---- small steps
 
@@ -217,9 +217,12 @@ unfolding Endings.end_requests
 end_requests_s {A} {s} g is why none h = each_s _ _ (λ t q k. end_asked_s g (why q.asked) q.asked k) (each_s _ _ (λ t q k. end_asked_s g (why q.asked) q.asked k)
     (record { stays = fewer_s is (all-weaken (λ (q : Request). IsSaid q.asked) _ s.requests (λ q said e. none q e) h.stays.said) h.stays }))
 
+let_connection_go_s : {A : Aim} {s : State} (conn : ℕ) → (conn == A.conn) ≡ false → P A s → P A (Endings.let_connection_go conn s)
+let_connection_go_s conn apart h = each_s _ _ (λ t p k. let_go_s p t.parked (record { stays = takes_s _ k.stays })) (record { stays = others_s conn apart h.stays })
+
 pub end_connection_s : {A : Aim} {s : State} (g : Setting) (why : Asked → ClassId) (conn : ℕ) → (conn == A.conn) ≡ false → P A s → P A (Endings.end_connection g why conn s)
 unfolding Endings.end_connection
-end_connection_s {A} {s} g why conn apart h = some_s (connection_at s conn) _ h (λ c is. end_requests_s g _ why (λ q e. other-none A conn c.dialled apart q e) (each_s _ _ (λ t p k. let_go_s p t.parked (record { stays = takes_s _ k.stays })) (record { stays = others_s conn apart h.stays })))
+end_connection_s {A} {s} g why conn apart h = some_s (connection_at s conn) _ h (λ c is. end_requests_s g _ why (λ q e. other-none A conn c.dialled apart q e) (let_connection_go_s conn apart h))
 
 -- ---- requests
 
@@ -260,6 +263,11 @@ go_out_s {A} {s} turn n q said h = goes q.asked said
 dial_s : {A : Aim} {s : State} (peer : Uuid) → P A s → P A (Requests.dial peer s)
 unfolding Requests.dial
 dial_s {A} {s} peer h = if_s (is_some (connection_to s peer) || state.is_dialling s peer) h (says_s (Dial peer) refl (record { stays = h.stays }))
+
+-- a peer of version 1 alone is dialled again
+pub redial_s : {A : Aim} {s : State} (peer : Uuid) (conn : ℕ) → (conn == A.conn) ≡ false → P A s → P A (Endings.redial peer conn s)
+unfolding Endings.redial
+redial_s {A} {s} peer conn apart h = dial_s peer (says_s (Close conn) refl (let_connection_go_s {s = Endings.note_peer peer s} conn apart (record { stays = h.stays })))
 
 ask_s : {A : Aim} {s : State} (q : Request) → IsSaid q.asked → P A s → P A (Requests.ask s q)
 unfolding Requests.ask
@@ -308,10 +316,16 @@ pub lookup_s : {A : Aim} {s : State} (g : Setting) (peer : Uuid) (name : List �
 unfolding OwnEvents.on_lookup
 lookup_s {A} {s} g peer name h = if_s (Rattle.sp_registry.specs.Names.is_name name) (says_s _ refl (record { stays = fresh_s _ (tt, tt) h.stays })) (says_s _ refl h)
 
+pub say_hello_s : {A : Aim} {s : State} (g : Setting) (version conn : ℕ) → P A s → P A (Frames.say_hello g version conn s)
+say_hello_s {A} {s} g version conn h = of (send_s Hellos conn (message.Hello version g.id g.digest) refl refl h)
+  where
+    of : P A (send Hellos conn (message.Hello version g.id g.digest) s) → P A (Frames.say_hello g version conn s)
+    of k = record { stays = first_s conn (λ (c : Connection). record c { version = version }) (λ c. refl) k.stays }
+
 pub opened_s : {A : Aim} (s : State) (g : Setting) (conn : ℕ) (dialled : Option Uuid) → P A (OwnEvents.add_connection conn dialled s) → P A (OwnEvents.on_opened g conn dialled s)
 unfolding OwnEvents.on_opened
-opened_s s g conn None h = send_s Hellos conn (message.Hello 1 g.id g.digest) refl refl h
-opened_s s g conn (Some peer) h = send_s Hellos conn (message.Hello 1 g.id g.digest) refl refl (record { stays = h.stays })
+opened_s s g conn None h = if_s (nat_le 2 g.version) h (say_hello_s g 1 conn h)
+opened_s s g conn (Some peer) h = say_hello_s {s = OwnEvents.dialled_no_more (Some peer) (OwnEvents.add_connection conn (Some peer) s)} g _ conn (record { stays = h.stays })
 
 pub refused_s : {A : Aim} {s : State} (g : Setting) (peer : Uuid) → P A s → P A (OwnEvents.on_refused g peer s)
 unfolding OwnEvents.on_refused

@@ -13,7 +13,7 @@ use Rattle.net_message.specs.declared.message.Message.{Message}
 use Rattle.net_message.specs.declared.message.Message.TheVariants as message
 use Rattle.space_ids.specs.declared.ids.ObjId.{ObjId}
 use Rattle.sp_rules.specs.Classes.{Setting}
-use Rattle.sp_rules.specs.Events.{Event, Opened, Received}
+use Rattle.sp_rules.specs.Events.{Event, Received}
 use Rattle.sp_rules.specs.Laws.{AllOf}
 use Rattle.sp_rules.specs.Lines.{IsAlone, AreDialledOnce, HasLines}
 use Rattle.sp_rules.specs.State.{Connection, connection_at, is_open, is_to}
@@ -40,7 +40,8 @@ use Rattle.sp_order_laws.specs.InTime.{ComeInTimeIn, CallsComeInTime}
 use Rattle.sp_order_laws.specs.Unbroken.{IsJoined}
 use Rattle.sp_order_laws.proofs.HeardLemmas.{owners_hear_what_came}
 use Rattle.sp_order_laws.proofs.UnbrokenLaws.{Laws, facts-of, standing-of, one-either}
-use Rattle.sp_order_laws.proofs.WelcomeFrames.{row-opened, dialler-row, setting-at, not-dialled}
+use Rattle.sp_laws.specs.Sent.{is_hello}
+use Rattle.sp_order_laws.proofs.WelcomeFrames.{row-opened, dialler-row, setting-at, not-dialled, ends-open}
 use Rattle.sp_order_laws.proofs.WelcomeLemmas.{Facts, one-some, one-left, one-right, ends-of, went, opened-as}
 use Rattle.sp_order_laws.proofs.WorldStays
 
@@ -162,12 +163,12 @@ own-hello s conn version client digest k o = by (opened conn s.history) refl
 
     none : (ms : List Message) → NoHellos ms → IsOneOf (message.Hello version client digest) ms → ⊥
     none [] a i = i
-    none (m ∷ ms) a (inl e) = true≢false (ap Rattle.sp_laws.specs.Sent.is_hello e ∙ a.0)
+    none (m ∷ ms) a (inl e) = true≢false (ap is_hello e ∙ a.0)
     none (m ∷ ms) a (inr i) = none ms a.1 i
 
     first : (ms : List Message) → BeginsWithHello s.setting ms → IsOneOf (message.Hello version client digest) ms → client ≡ s.setting.id
-    first [] a i = absurd a
-    first (m ∷ ms) a (inl e) = ap id-of (e ∙ a.0)
+    first [] a i = absurd i
+    first (m ∷ ms) a (inl e) = ap id-of (e ∙ a.0.says)
     first (m ∷ ms) a (inr i) = absurd (none ms a.1 i)
 
     by : (b : Bool) → opened conn s.history ≡ b → client ≡ s.setting.id
@@ -211,7 +212,6 @@ low k n le = pick (nat_le k n) refl
 -- What is known of a world in which nothing fails.
 pub record Given (settings : List Setting) (w : World) : Type 0 where
   pub facts : Facts settings w
-  pub stays : (i : ℕ) (s : Space) → slice_get w.spaces i ≡ Some s → (n : ℕ) (d : Option Uuid) → IsOneOf (Opened n d) s.history → is_open s.state n ≡ true
   pub begins : AllOf (λ (s : Space). (conn : ℕ) → BeginsInOrder s conn) w.spaces
   pub heard : AllOf (λ (s : Space). AllOf (IsHeard s.history) s.state.owner.entries) w.spaces
   pub rise : NumbersRiseIn w
@@ -229,10 +229,23 @@ dialled-there {settings} {w} G conn n p a b m between num sent = by (connection_
     F : Facts settings w
     F = G.facts
 
+    plain : (y : Message) → IsOneOf n (sequence_in y) → is_hello y ≡ false
+    plain (message.Dirty sequence period objects) o = refl
+    plain (message.Clean sequence strong objects) o = refl
+    plain (message.Hello version space digest) o = absurd o
+    plain (message.Call number object method fuel arguments) o = refl
+    plain (message.Returned number fuel value) o = refl
+    plain (message.Threw number class) o = refl
+    plain (message.Spent number) o = refl
+    plain (message.Ack number) o = refl
+    plain (message.Lease sequence period) o = refl
+    plain (message.Cleaned sequence) o = refl
+    plain (message.Lookup number name) o = refl
+
     opened-here : is_open a.state conn ≡ true
     opened-here =
         let x = opened-as a.history conn true (asks-there (HasOpened a.history) conn n m num (went a.history conn m a.outputs (at-all HasDirections p.dialler.space w.spaces a between.dialled F.directions).sent sent)) in
-        G.stays p.dialler.space a between.dialled conn x.0 x.1.1
+        (ends-open F conn p a b m between (plain m num) (inl sent)).0 x.0 x.1.1
 
     to : (c : Connection) → connection_at a.state conn ≡ Some c → (d : Option Uuid) → c.dialled ≡ d → is_some d ≡ true → IsJoined w.spaces p.dialler.space d (Some (p.dialler.space, p.accepter.space)) → d ≡ Some b.setting.id
     to c at None e f j = absurd (true≢false (sym f))
@@ -321,7 +334,7 @@ in-time {settings} {w} G conn k p a b o between there = by (owner.remembered_of 
         rises = subst (Rattle.sp_rules.specs.Laws.RisesWithin 0 (Rattle.dgc_client.specs.Table.numbers_of a.state.leases)) (flat-append sequence_in (came_on conn b.history) p.accepter.queue) (G.rise.brought conn p between.pipe a b between.dialled between.accepted).sequences
 
 pub calls_come_in_time : Laws → CallsComeInTime
-calls_come_in_time L settings events kind fine = in-time (record { facts = facts-of L settings events kind h; stays = h.stays; begins = connections_begin_in_order settings events; heard = owners_hear_what_came settings events; rise = numbers_rise L.ways L.sent settings events })
+calls_come_in_time L settings events kind fine = in-time (record { facts = facts-of L settings events kind h; begins = connections_begin_in_order settings events; heard = owners_hear_what_came settings events; rise = numbers_rise L.ways L.sent settings events })
   where
     h : WorldStays.Standing settings (run (new_world settings) events)
     h = standing-of L settings events kind fine

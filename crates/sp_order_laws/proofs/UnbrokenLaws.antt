@@ -1,8 +1,8 @@
--- Where nothing fails no connection closes, in every run of every world of spaces of one kind.
+-- Where nothing fails no connection closes but those that tried a version in vain, in every run of every world of spaces of one kind.
 use mathlib.Core.Path.{sym, ap, subst, ◌∙◌}
 use Rattle.std.proofs.Common.{arith, inl, inr}
 use Rattle.std.proofs.lemmas.Bool.{true≢false, eq-eqb}
-use Rattle.std.specs.Prelude.{◌≡◌, ◌≤◌, ◌⊎◌, refl, ℕ, zero, suc, ◌+◌, ◌==◌, if◌then◌else◌, Bool, true, false, List, [], ◌∷◌, ◌++◌, None, Some, map, slice_get}
+use Rattle.std.specs.Prelude.{◌≡◌, ◌≤◌, ◌⊎◌, refl, ℕ, zero, suc, ◌+◌, ◌==◌, if◌then◌else◌, Bool, true, false, List, [], ◌∷◌, ◌++◌, Option, None, Some, map, slice_get}
 use Rattle.net_message.specs.declared.message.Message.{Message}
 use Rattle.net_message.specs.declared.message.Message.TheVariants as message
 use Rattle.space_ids.specs.declared.ids.ObjId.{ObjId}
@@ -15,12 +15,14 @@ use Rattle.sp_rules.specs.Space
 use Rattle.sp_rules.specs.State.{State, Request, Connection, ParkedFrame, Acked, connection_at, is_open}
 use Rattle.sp_rules.specs.Worlds
 use Rattle.sp_rules.specs.Worlds.{World, Space, Pipe, End, Over, WorldEvent, side, new_space, happens, after, run, new_world}
-use Rattle.sp_rules.proofs.AllLemmas.{some-none, all-weaken}
+use Rattle.uuid.specs.declared.Uuid.{Uuid}
+use Rattle.sp_rules.proofs.AllLemmas.{some-none, or-right, all-weaken}
 use Rattle.sp_rules.proofs.OwnLemmas.{some-same}
 use Rattle.sp_laws.specs.Answered.{AreInPlace, AnswersAreParked}
 use Rattle.sp_laws.specs.Inbound.{OpensOnce}
-use Rattle.sp_laws.specs.Others.{ConnectionsAreOpenedOnce}
-use Rattle.sp_laws.specs.Directions.{FramesGoTheirWay, SpacesHaveDirections}
+use Rattle.sp_laws.specs.Others.{IsOpenedOnce, ConnectionsAreOpenedOnce}
+use Rattle.sp_laws.specs.Directions.{opens_end, was_opened, HasOpened, FramesGoTheirWay, SpacesHaveDirections}
+use Rattle.sp_laws.proofs.DirectionLemmas.{opens-now}
 use Rattle.sp_order_laws.specs.HandShakes.{HandShakesAreInTable}
 use Rattle.sp_order_laws.specs.Delivered.{came_on, sent_on, WhatComesWasSent}
 use Rattle.sp_order_laws.specs.Ends.{IsOneOf, CameAs, ParkedResultsCame}
@@ -30,16 +32,22 @@ use Rattle.sp_order_laws.specs.Places.{EachCallStandsOnce, EachGroupIsAnsweredOn
 use Rattle.sp_order_laws.proofs.NoteLemmas.{append-none, append-after}
 use Rattle.sp_order_laws.proofs.RisingLaws.{risen-of}
 use Rattle.sp_order_laws.proofs.RisingMoves.{IsSaid}
-use Rattle.sp_order_laws.proofs.WorldFacts.{Known, at-all}
+use Rattle.sp_order_laws.proofs.WorldFacts.{Known}
 use Rattle.sp_order_laws.specs.Asked.{asks_for, out_on}
 use Rattle.sp_order_laws.specs.Told.{AnswersTold}
-use Rattle.sp_order_laws.specs.Unbroken.{AreOfOneKind, NothingFails, is_failure, IsUnbroken, NothingCloses}
+use Rattle.sp_order_laws.specs.Unbroken.{AreOfOneKind, NothingFails, is_failure, IsProbe, IsUnbroken, NothingCloses}
 use Rattle.sp_order_laws.proofs.ResultStays.{results_wait_for_acks}
 use Rattle.sp_order_laws.proofs.RowStays.{rows-opened}
 use Rattle.sp_order_laws.proofs.StayLaws.{what_is_asked_stands, leases_answer_dirty_calls}
-use Rattle.sp_order_laws.proofs.WelcomeFrames.{is-welcome}
-use Rattle.sp_order_laws.proofs.WelcomeLemmas.{Facts, one-left, one-right}
-use Rattle.sp_order_laws.proofs.WorldStays.{Standing, to-joined, happens-standing}
+use Rattle.sp_order_laws.specs.Hellos.{IsFirstVersion, SpeaksInTurn, AnswersInTurn}
+pub use Rattle.sp_order_laws.proofs.ListLemmas.{one-either}
+use Rattle.sp_order_laws.proofs.ListLemmas.{one-left, one-right, one-output}
+use Rattle.sp_order_laws.proofs.TableLemmas.{connections_begin_in_order}
+use Rattle.sp_order_laws.proofs.TurnLemmas.{hellos_are_said_first}
+use Rattle.sp_order_laws.proofs.VersionLemmas.{AnsweredAs, SaidAs}
+use Rattle.sp_order_laws.proofs.WelcomeFrames.{is-welcome, hellos-alone}
+use Rattle.sp_order_laws.proofs.WelcomeLemmas.{Facts}
+use Rattle.sp_order_laws.proofs.WorldStays.{Standing, InVain, to-probe, of-probe, to-joined, happens-standing}
 
 -- ---- the laws on which it stands
 
@@ -66,38 +74,9 @@ came-now conn m e h is = one-right m (came_on conn h) (Rattle.sp_order_laws.spec
     here true f = inl refl
     here false f = absurd (true≢false (sym f))
 
--- an output among these
-pub one-output : (Is : Output → Type 0) (conn : ℕ) (m : Message) (os : List Output) → AllOf Is os → IsOneOf m (sent_on conn os) → Is (Send conn m)
-one-output Is conn m [] a o = absurd o
-one-output Is conn m (x ∷ os) a o = by x a.0 (λ i. one-output Is conn m os a.1 i) o
-  where
-    sent : (n : ℕ) (y : Message) (b : Bool) → (n == conn) ≡ b → Is (Send n y) → (IsOneOf m (sent_on conn os) → Is (Send conn m)) → IsOneOf m ((if b then y ∷ [] else []) ++ sent_on conn os) → Is (Send conn m)
-    sent n y true at k rest (inl e) = subst (λ z. Is (Send conn z)) (sym e) (subst (λ z. Is (Send z y)) (Rattle.std.proofs.lemmas.Bool.eqb-true n conn at) k)
-    sent n y true at k rest (inr i) = rest i
-    sent n y false at k rest i = rest i
-
-    by : (y : Output) → Is y → (IsOneOf m (sent_on conn os) → Is (Send conn m)) → IsOneOf m (Rattle.sp_order_laws.specs.Delivered.frame_in conn y ++ sent_on conn os) → Is (Send conn m)
-    by (Rattle.sp_rules.specs.Events.Started task) k rest i = rest i
-    by (Rattle.sp_rules.specs.Events.Ended task outcome) k rest i = rest i
-    by (Rattle.sp_rules.specs.Events.Withdrawn ids) k rest i = rest i
-    by (Rattle.sp_rules.specs.Events.Denied why) k rest i = rest i
-    by (Send n y) k rest i = sent n y (n == conn) refl k rest i
-    by (Rattle.sp_rules.specs.Events.Dial peer) k rest i = rest i
-    by (Rattle.sp_rules.specs.Events.Close n) k rest i = rest i
-    by (Rattle.sp_rules.specs.Events.Ready task) k rest i = rest i
-
 sent-append : (conn : ℕ) (os ps : List Output) → sent_on conn (os ++ ps) ≡ sent_on conn os ++ sent_on conn ps
 sent-append conn [] ps = refl
 sent-append conn (o ∷ os) ps = ap (λ (l : List Message). Rattle.sp_order_laws.specs.Delivered.frame_in conn o ++ l) (sent-append conn os ps) ∙ sym (append-after (Rattle.sp_order_laws.specs.Delivered.frame_in conn o) (sent_on conn os) (sent_on conn ps))
-
-pub one-either : {A : Type 0} (x : A) (xs ys : List A) → IsOneOf x (xs ++ ys) → (IsOneOf x xs) ⊎ (IsOneOf x ys)
-one-either x [] ys i = inr i
-one-either x (z ∷ xs) ys (inl e) = inl (inl e)
-one-either x (z ∷ xs) ys (inr i) = by (one-either x xs ys i)
-  where
-    by : (IsOneOf x xs) ⊎ (IsOneOf x ys) → (IsOneOf x (z ∷ xs)) ⊎ (IsOneOf x ys)
-    by (inl k) = inl (inr k)
-    by (inr k) = inr k
 
 told-of : Laws → (g : Setting) (h : List Event) → IsTaken g h → OpensOnce h → (conn sequence period : ℕ) → IsOneOf (message.Lease sequence period) (sent_on conn (Space.all_outputs g h)) → (asked : ℕ) × ((ids : List ObjId) × IsOneOf (message.Dirty sequence asked ids) (came_on conn h))
 told-of L g [] taken once conn sequence period o = absurd o
@@ -126,18 +105,47 @@ cleaned-of L g (e ∷ h) taken once conn sequence o = by (one-either (message.Cl
 of-known : (Is : Space → Type 0) (spaces : List Space) → ((s : Space) → Known s → Is s) → AllOf Known spaces → AllOf Is spaces
 of-known Is spaces k a = all-weaken Known Is spaces k a
 
-alive-is : (w : World) → AllOf (λ (p : Pipe). (Worlds.is_ended p.dialler.phase ≡ false) × (Worlds.is_ended p.accepter.phase ≡ false)) w.pipes → (conn : ℕ) (p : Pipe) (end : End) → slice_get w.pipes conn ≡ Some p → (side end p).phase ≡ Over → ⊥
-alive-is w a conn p end is over = by end over (at-all _ conn w.pipes p is a)
+alive-is : (p : Pipe) (end : End) → (side end p).phase ≡ Over → (Worlds.is_ended p.dialler.phase ≡ false) × (Worlds.is_ended p.accepter.phase ≡ false) → ⊥
+alive-is p Worlds.Dialler o k = true≢false (sym (ap Worlds.is_ended o) ∙ k.0)
+alive-is p Worlds.Accepter o k = true≢false (sym (ap Worlds.is_ended o) ∙ k.1)
+
+-- of which version each Hello is that a space said
+hellos-so : (g : Setting) (h : List Event) (conn version : ℕ) (space : Uuid) (digest : List ℕ) → IsOneOf (message.Hello version space digest) (sent_on conn (Space.all_outputs g h)) → SaidAs g h conn version
+hellos-so g [] conn version space digest o = absurd o
+hellos-so g (e ∷ h) conn version space digest o = by (one-either (message.Hello version space digest) (sent_on conn (Space.all_outputs g h)) (sent_on conn (Space.outputs_of g h e)) (subst (IsOneOf (message.Hello version space digest)) (sent-append conn (Space.all_outputs g h) (Space.outputs_of g h e)) o)) (λ i. hellos-so g h conn version space digest i)
   where
-    by : (x : End) → (side x p).phase ≡ Over → (Worlds.is_ended p.dialler.phase ≡ false) × (Worlds.is_ended p.accepter.phase ≡ false) → ⊥
-    by Worlds.Dialler o k = true≢false (sym (ap Worlds.is_ended o) ∙ k.0)
-    by Worlds.Accepter o k = true≢false (sym (ap Worlds.is_ended o) ∙ k.1)
+    later-way : (end : Bool) → HasOpened h conn end → HasOpened (e ∷ h) conn end
+    later-way end a = or-right (opens_end conn end e) (was_opened h conn end) a
+
+    answered : AnsweredAs g h conn version → AnsweredAs g (e ∷ h) conn version
+    answered (inl x) = inl x
+    answered (inr x) = inr (x.0, (x.1.0, (x.1.1.0, (x.1.1.1.0, (one-left (message.Hello x.1.0 x.1.1.0 x.1.1.1.0) (came_on conn h) (Rattle.sp_order_laws.specs.Delivered.frame_of conn e) x.1.1.1.1.0, x.1.1.1.1.1)))))
+
+    later : SaidAs g h conn version → SaidAs g (e ∷ h) conn version
+    later (inl x) = inl (later-way true x.0, x.1)
+    later (inr x) = inr (later-way false x.0, answered x.1)
+
+    now : SpeaksInTurn g e h conn version → SaidAs g (e ∷ h) conn version
+    now (inr x) = inr (x.0.way, inr (x.0.late, (x.0.version, (x.0.space, (x.0.digest, (came-now conn (message.Hello x.0.version x.0.space x.0.digest) e h x.0.came, x.1))))))
+    now (inl x) = opens x.0 x.1.0 x.1.1
+      where
+        opens : (dialled : Option Uuid) → e ≡ Opened conn dialled → IsFirstVersion g dialled version → SaidAs g (e ∷ h) conn version
+        opens None is first = inr (subst (λ d. HasOpened (d ∷ h) conn false) (sym is) (opens-now h conn None), inl first)
+        opens (Some peer) is first = inl (subst (λ d. HasOpened (d ∷ h) conn true) (sym is) (opens-now h conn (Some peer)), first)
+
+    by : (IsOneOf (message.Hello version space digest) (sent_on conn (Space.all_outputs g h))) ⊎ (IsOneOf (message.Hello version space digest) (sent_on conn (Space.outputs_of g h e)))
+        → (IsOneOf (message.Hello version space digest) (sent_on conn (Space.all_outputs g h)) → SaidAs g h conn version) → SaidAs g (e ∷ h) conn version
+    by (inl i) rest = later (rest i)
+    by (inr i) rest = now (one-output (AnswersInTurn g e h) conn (message.Hello version space digest) (Space.outputs_of g h e) (hellos_are_said_first g h e) i)
 
 pub facts-of : Laws → (settings : List Setting) (events : List WorldEvent) → AreOfOneKind settings → Standing settings (run (new_world settings) events) → Facts settings (run (new_world settings) events)
 facts-of L settings events kind h = record {
   kind = kind;
   settings_are = h.settings_are;
-  live = alive-is w h.live;
+  over = λ conn p end is o. over conn p end o (h.live conn p is);
+  stays = λ i s at conn dialled o. stays conn (h.stays i s at conn dialled o);
+  begins = connections_begin_in_order settings events;
+  hellos = of-known _ w.spaces (λ s k conn version space digest o. hellos-so s.setting s.history conn version space digest (subst (λ os. IsOneOf (message.Hello version space digest) (sent_on conn os)) k.outputs o)) h.known;
   joins = λ i s at conn dialled o. to-joined w.spaces i dialled (Rattle.sp_order_laws.specs.Unbroken.ends_at w.pipes conn) (h.joins i s at conn dialled o);
   known = h.known;
   two = (L.opened settings events).pipes;
@@ -165,6 +173,14 @@ facts-of L settings events kind h = record {
     w : World
     w = run (new_world settings) events
 
+    over : (conn : ℕ) (p : Pipe) (end : End) → (side end p).phase ≡ Over → ((Worlds.is_ended p.dialler.phase ≡ false) × (Worlds.is_ended p.accepter.phase ≡ false)) ⊎ InVain w conn → IsProbe w conn
+    over conn p end o (inl k) = absurd (alive-is p end o k)
+    over conn p end o (inr vain) = to-probe w conn vain
+
+    stays : {A : Type 0} (conn : ℕ) → A ⊎ InVain w conn → A ⊎ IsProbe w conn
+    stays conn (inl x) = inl x
+    stays conn (inr vain) = inr (to-probe w conn vain)
+
 -- ---- runs
 
 pub run-last : (w : World) (es : List WorldEvent) (e : WorldEvent) → run w (es ++ e ∷ []) ≡ after (run w es) e
@@ -176,7 +192,7 @@ new-standing : (settings : List Setting) → Standing settings (new_world settin
 unfolding new_world Space.state_of
 new-standing settings = record {
   settings_are = names settings;
-  live = tt;
+  live = λ conn p at. absurd (some-none p (sym at));
   joins = λ i s at conn dialled o. absurd (subst (IsOneOf (Opened conn dialled)) (nothing settings i s at) o);
   stays = λ i s at conn dialled o. absurd (subst (IsOneOf (Opened conn dialled)) (nothing settings i s at) o);
   asked = tt;
@@ -205,10 +221,19 @@ all-split Is (y ∷ xs) x a = let r = all-split Is xs x a.1 in ((a.0, r.0), r.1)
 
 next-standing : Laws → (settings : List Setting) (events : List WorldEvent) (e : WorldEvent) → AreOfOneKind settings → is_failure e ≡ false → Standing settings (run (new_world settings) events) → Standing settings (after (run (new_world settings) events) e)
 unfolding after
-next-standing L settings events e kind fine h = happens-standing L.ways L.parked settings e (record w { refused = None }) fine (λ conn p to m ms s c is queue at row. is-welcome (facts-of L settings events kind h) conn p to m ms s c is queue at row) (record { settings_are = h.settings_are; live = h.live; joins = h.joins; stays = h.stays; asked = h.asked; known = h.known })
+next-standing L settings events e kind fine h = happens-standing L.ways L.parked settings e (record w { refused = None }) fine (λ conn p to m ms s c is queue at row. vain conn (is-welcome F conn p to m ms s c is queue at row))
+    (subst (λ (x : World). AllOf IsOpenedOnce x.spaces) (run-last (new_world settings) events e) (L.opened settings (events ++ e ∷ [])).spaces)
+    (record { settings_are = h.settings_are; live = h.live; joins = h.joins; stays = h.stays; asked = h.asked; known = h.known })
   where
     w : World
     w = run (new_world settings) events
+
+    F : Facts settings w
+    F = facts-of L settings events kind h
+
+    vain : {A : Type 0} (conn : ℕ) → A ⊎ IsProbe w conn → A ⊎ InVain w conn
+    vain conn (inl x) = inl x
+    vain conn (inr P) = inr (of-probe w conn P)
 
 pub stands : Laws → (settings : List Setting) → AreOfOneKind settings → (before more : List WorldEvent) → NothingFails more → Standing settings (run (new_world settings) before) → Standing settings (run (new_world settings) (before ++ more))
 stands L settings kind before [] fine h = subst (λ es. Standing settings (run (new_world settings) es)) (sym (append-none before)) h
@@ -219,7 +244,7 @@ unfolding run
 standing-of L settings events kind fine = stands L settings kind [] events fine (new-standing settings)
 
 pub nothing_closes : Laws → NothingCloses
-nothing_closes L settings events kind fine = record { live = F.live; joins = F.joins; stays = h.stays; welcome = λ conn p to m ms s c is queue at row. is-welcome F conn p to m ms s c is queue at row }
+nothing_closes L settings events kind fine = record { live = F.over; hellos = λ conn P m o. hellos-alone F conn P m o; joins = F.joins; stays = F.stays; welcome = λ conn p to m ms s c is queue at row. is-welcome F conn p to m ms s c is queue at row }
   where
     h : Standing settings (run (new_world settings) events)
     h = standing-of L settings events kind fine

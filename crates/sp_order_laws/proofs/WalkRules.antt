@@ -28,7 +28,7 @@ use Rattle.sp_registry.specs.declared.registry.Binding.{Binding}
 use Rattle.sp_rules.specs.Behaviours.{Outcome, Returned, Threw, Spent, Op, Create, Get, Put, Call, Reply, GivesBack, Throws}
 use Rattle.sp_rules.specs.Classes.{Setting, fit_kinds}
 use Rattle.sp_rules.specs.Endings
-use Rattle.sp_rules.specs.Events.{Ended, Turn, Sends, Hellos, Replies, Note, Event, Moment, Sweep, Root, RootAck, Bind, Rebind, Unbind, Lookup, Opened, Refused, Received, Closed, ReadFailed, Bad, WriteFailed, Committed, Parked, GivenBack, Finished, Output, Close}
+use Rattle.sp_rules.specs.Events.{Ended, Turn, Sends, Hellos, Replies, Note, Event, Moment, Sweep, Root, RootAck, Bind, Rebind, Unbind, Lookup, Opened, Refused, Received, Closed, ReadFailed, Bad, WriteFailed, Committed, Parked, GivenBack, Finished, Output, Dial, Close}
 use Rattle.sp_rules.specs.Frames
 use Rattle.sp_rules.specs.Holders
 use Rattle.sp_rules.specs.Holders.{hold_ids, drop_ids}
@@ -40,7 +40,7 @@ use Rattle.sp_rules.specs.References.{references_of, references_in}
 use Rattle.sp_rules.specs.Requests
 use Rattle.sp_rules.specs.Space
 use Rattle.sp_rules.specs.State as state
-use Rattle.sp_rules.specs.State.{State, Object, Living, Origin, OfRoot, OfCall, Until, Request, Asked, Calls, LooksUp, Tells, Connection, KeptResult, Frame, CallFrame, ReturnedFrame, ParkedFrame, task_at, ready_at, object_at, connection_at, is_open, set_task, say, send}
+use Rattle.sp_rules.specs.State.{State, Object, Living, Origin, OfRoot, OfCall, Until, Request, Asked, Calls, LooksUp, Tells, Connection, KeptResult, Frame, CallFrame, ReturnedFrame, ParkedFrame, task_at, ready_at, object_at, connection_at, connection_to, is_open, set_task, say, send}
 use Rattle.sp_rules.specs.Tasks.{Stand, Runs, AsksFor, HasEnded, stand, steps}
 use Rattle.sp_rules.proofs.AllLemmas.{found-is}
 use Rattle.sp_rules.proofs.ReadyLemmas.{ready-is}
@@ -133,6 +133,7 @@ pub record Moves (g : Setting) (P : List Owed → State → Type 0) : Type 0 whe
   pub parks : (l : List Owed) (s : State) (p : ParkedFrame) → P (of_parked p ∷ l) s → P l (record s { parked = s.parked ++ p ∷ [] })
   pub takes : (l : List Owed) (s : State) (p : ParkedFrame) → P l s → P l (ParkedFrames.take_parked p s)
   pub counts : (l : List Owed) (s : State) (conn number : ℕ) → P (Owes CallReply conn number ∷ l) s → P (Owes CallReply conn number ∷ l) (Frames.counted conn number s)
+  pub versions : (l : List Owed) (s : State) (conn version : ℕ) → P l s → P l (Frames.of_version version conn s)
   pub closes : (l : List Owed) (s : State) (conn : ℕ) → P l s → P l (Endings.without_connection conn s)
 
 -- Beside them: a parked frame goes with what is owed for it, and all that wait for a reference fail.
@@ -320,9 +321,22 @@ end_requests_walk : {g : Setting} {P : List Owed → State → Type 0} (W : Walk
 unfolding Endings.end_requests
 end_requests_walk {P = P} W {l} {s} is why h = each_walk W.moves _ _ (λ t q k. end_asked_walk W (why q.asked) q.asked k) (each_walk W.moves _ _ (λ t q k. end_asked_walk W (why q.asked) q.asked k) (W.moves.fewer l s is h))
 
+let_connection_go_walk : {g : Setting} {P : List Owed → State → Type 0} (M : Moves g P) {l : List Owed} {s : State} (conn : ℕ) → P l s → P l (Endings.let_connection_go conn s)
+let_connection_go_walk M {l} {s} conn h = each_walk M _ _ (λ t p k. let_go_walk M p t.parked (M.takes l t p k)) (M.closes l s conn h)
+
+redial_walk : {g : Setting} {P : List Owed → State → Type 0} (M : Moves g P) {l : List Owed} {s : State} (peer : Uuid) (conn : ℕ) → P l s → P l (Endings.redial peer conn s)
+unfolding Endings.redial Requests.dial
+redial_walk {P = P} M {l} {s} peer conn h = if_walk M (is_some (connection_to closed peer) || state.is_dialling closed peer) kept (M.says l _ (Dial peer) refl (M.quiet l closed _ refl kept))
+  where
+    closed : State
+    closed = say (Close conn) (Endings.let_connection_go conn (Endings.note_peer peer s))
+
+    kept : P l closed
+    kept = M.says l _ (Close conn) refl (let_connection_go_walk M {l = l} {s = Endings.note_peer peer s} conn (M.quiet l s _ refl h))
+
 end_connection_walk : {g : Setting} {P : List Owed → State → Type 0} (W : Walks g P) {l : List Owed} {s : State} (why : Asked → ClassId) (conn : ℕ) → P l s → P l (Endings.end_connection g why conn s)
 unfolding Endings.end_connection
-end_connection_walk {P = P} W {l} {s} why conn h = some_walk W.moves (connection_at s conn) _ h (λ c is. end_requests_walk W _ why (each_walk W.moves _ _ (λ t p k. let_go_walk W.moves p t.parked (W.moves.takes l t p k)) (W.moves.closes l s conn h)))
+end_connection_walk W {l} {s} why conn h = some_walk W.moves (connection_at s conn) _ h (λ c is. end_requests_walk W _ why (let_connection_go_walk W.moves {l = l} conn h))
 
 close_walk : {g : Setting} {P : List Owed → State → Type 0} (W : Walks g P) {l : List Owed} {s : State} (class : ClassId) (conn : ℕ) → P l s → P l (Endings.close g class conn s)
 unfolding Endings.close
@@ -330,10 +344,16 @@ close_walk W {l} class conn h = W.moves.says l _ (Close conn) refl (end_connecti
 
 -- ---- frames that come
 
+say_hello_walk : {g : Setting} {P : List Owed → State → Type 0} (M : Moves g P) {l : List Owed} {s : State} (version conn : ℕ) → P l s → P l (Frames.say_hello g version conn s)
+say_hello_walk {g} M {l} {s} version conn h = M.versions l (send Hellos conn (message.Hello version g.id g.digest) s) conn version (send_walk M Hellos conn (message.Hello version g.id g.digest) refl h)
+
 first_walk : {g : Setting} {P : List Owed → State → Type 0} (W : Walks g P) {s : State} {e : Event} (c : Connection) (m : Message) → Begins g P s e → connection_at s c.number ≡ Some c → is_none c.peer ≡ true → P (brought c.number m) s → P [] (Frames.first_frame g c m s)
 unfolding Frames.first_frame
-first_walk {g} {P} W {s} c (message.Hello version space digest) B is shut h = some_walk W.moves c.dialled _ (if_walk W.moves (bytes_eq digest g.digest) (B.greets c space is h) (close_walk W _ c.number h))
-    (λ peer eq. if_walk W.moves (bytes_eq digest g.digest && bytes_eq space peer) (B.flushes c space peer is shut h) (close_walk W _ c.number h))
+first_walk {g} {P} W {s} c (message.Hello version space digest) B is shut h = some_walk W.moves c.dialled _
+    (if_walk W.moves (bytes_eq digest g.digest && nat_le version g.version) (if_walk W.moves (nat_le 2 g.version) (say_hello_walk W.moves {l = []} _ c.number (B.greets c space is h)) (B.greets c space is h)) (close_walk W _ c.number h))
+    (λ peer eq. if_walk W.moves (bytes_eq digest g.digest && bytes_eq space peer)
+    (if_walk W.moves (version == c.version) (B.flushes c space peer is shut h) (if_walk W.moves (nat_le 2 c.version && version == 1) (redial_walk W.moves {l = []} peer c.number h) (close_walk W _ c.number h)))
+    (close_walk W _ c.number h))
 first_walk W c (message.Call number object method fuel arguments) B is shut h = close_walk W _ c.number (W.moves.falls [] _ _ h)
 first_walk W c (message.Returned number fuel value) B is shut h = close_walk W _ c.number (W.moves.falls [] _ _ h)
 first_walk W c (message.Threw number class) B is shut h = close_walk W _ c.number h
@@ -413,9 +433,9 @@ got_walk W c (message.Returned number fuel value) h = came_result_walk W c numbe
 got_walk {g} W c (message.Threw number class) h = answered_by_walk W c number _ (λ asked. ends_as_walk W.moves c number (λ a. Frames.thrown_reply g class) asked h) h
 got_walk {g} W c (message.Spent number) h = answered_by_walk W c number _ (λ asked. ends_as_walk W.moves c number (Frames.spent_reply g) asked h) h
 got_walk W c (message.Ack number) h = got_ack_walk W c number h
-got_walk W {s} c (message.Dirty sequence period objects) h = send_walk W.moves _ c.number _ refl (W.moves.quiet _ s _ refl h)
+got_walk W {s} c (message.Dirty sequence period objects) h = if_walk W.moves (Frames.fit_frame c objects) (send_walk W.moves _ c.number _ refl (W.moves.quiet _ s _ refl h)) (close_walk W _ c.number (W.moves.falls [] _ _ h))
 got_walk W c (message.Lease sequence period) h = told_by_walk W c true sequence (λ call. lease_events.DirtyAnswered call period) h
-got_walk W {s} c (message.Clean sequence strong objects) h = send_walk W.moves _ c.number _ refl (W.moves.quiet _ s _ refl h)
+got_walk W {s} c (message.Clean sequence strong objects) h = if_walk W.moves (Frames.fit_frame c objects) (send_walk W.moves _ c.number _ refl (W.moves.quiet _ s _ refl h)) (close_walk W _ c.number (W.moves.falls [] _ _ h))
 got_walk W c (message.Cleaned sequence) h = told_by_walk W c false sequence lease_events.CleanAnswered h
 got_walk W c (message.Lookup number name) h = got_lookup_walk W c number name h
 
@@ -480,8 +500,8 @@ lookup_walk {P = P} M {s} peer name same B h = if_walk M (is_name name) (M.says 
 
 opened_walk : {g : Setting} {P : List Owed → State → Type 0} (M : Moves g P) {s : State} {e : Event} (conn : ℕ) (dialled : Option Uuid) → e ≡ Opened conn dialled → Begins g P s e → P [] s → P [] (OwnEvents.on_opened g conn dialled s)
 unfolding OwnEvents.on_opened
-opened_walk {g} M conn None same B h = send_walk M Hellos conn (message.Hello 1 g.id g.digest) refl (B.opens conn None same h)
-opened_walk {g} M conn (Some peer) same B h = send_walk M Hellos conn (message.Hello 1 g.id g.digest) refl (M.quiet [] _ _ refl (B.opens conn (Some peer) same h))
+opened_walk {g} M conn None same B h = if_walk M (nat_le 2 g.version) (B.opens conn None same h) (say_hello_walk M {l = []} 1 conn (B.opens conn None same h))
+opened_walk M {s} conn (Some peer) same B h = say_hello_walk M {l = []} {s = OwnEvents.dialled_no_more (Some peer) (OwnEvents.add_connection conn (Some peer) s)} _ conn (M.quiet [] _ _ refl (B.opens conn (Some peer) same h))
 
 refused_walk : {g : Setting} {P : List Owed → State → Type 0} (W : Walks g P) {l : List Owed} {s : State} (peer : Uuid) → P l s → P l (OwnEvents.on_refused g peer s)
 unfolding OwnEvents.on_refused

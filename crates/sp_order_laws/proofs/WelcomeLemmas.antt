@@ -3,7 +3,7 @@ use mathlib.Core.Path.{sym, ap, subst, ◌∙◌}
 use Rattle.std.proofs.Common.{arith, inl, inr}
 use Rattle.std.proofs.lemmas.Bool.{true≢false, eqb-true, eq-eqb}
 use Rattle.std.specs.List.{flat_map, list_any}
-use Rattle.std.specs.Prelude.{◌≡◌, ◌≤◌, refl, ℕ, ◌+◌, ◌==◌, ◌&&◌, ◌||◌, is_some, Bool, true, false, List, [], ◌∷◌, ◌++◌, Option, None, Some, map, slice_get, option_map, if◌then◌else◌}
+use Rattle.std.specs.Prelude.{◌≡◌, ◌≤◌, ◌⊎◌, refl, ℕ, ◌+◌, ◌==◌, ◌&&◌, ◌||◌, is_some, Bool, true, false, List, [], ◌∷◌, ◌++◌, Option, None, Some, map, slice_get, option_map, if◌then◌else◌}
 use Rattle.uuid.specs.declared.Uuid.{Uuid}
 use Rattle.net_message.specs.declared.message.Message.{Message}
 use Rattle.net_message.specs.declared.message.Message.TheVariants as message
@@ -30,15 +30,22 @@ use Rattle.sp_order_laws.specs.Rising.{sequence_in}
 use Rattle.sp_order_laws.proofs.RisingMoves.{IsSaid, times-append}
 use Rattle.sp_order_laws.proofs.WorldFacts.{Known}
 use Rattle.sp_order_laws.specs.Asked.{out_on, asks_for, is_answer_to, AnswersNone}
-use Rattle.sp_order_laws.specs.Unbroken.{AreOfOneKind, ends_at, IsJoined}
+use Rattle.sp_order_laws.specs.Hellos.{BeginsInOrder}
+use Rattle.sp_order_laws.specs.Unbroken.{AreOfOneKind, ends_at, IsJoined, IsProbe}
+use Rattle.sp_order_laws.proofs.VersionLemmas.{SaidAs}
+pub use Rattle.sp_order_laws.proofs.ListLemmas.{one-left, one-right, one-output}
 
 -- ---- what is known of a world
 
--- The laws of a world, and that no end is over.
+-- The laws of a world, and that no end is over but of a connection that tried a version in vain.
 pub record Facts (settings : List Setting) (w : World) : Type 0 where
   pub kind : AreOfOneKind settings
   pub settings_are : map (λ (s : Space). s.setting) w.spaces ≡ settings
-  pub live : (conn : ℕ) (p : Pipe) (end : End) → slice_get w.pipes conn ≡ Some p → (side end p).phase ≡ Over → ⊥
+  pub over : (conn : ℕ) (p : Pipe) (end : End) → slice_get w.pipes conn ≡ Some p → (side end p).phase ≡ Over → IsProbe w conn
+  pub stays : (i : ℕ) (s : Space) → slice_get w.spaces i ≡ Some s → (conn : ℕ) (dialled : Option Uuid) → IsOneOf (Opened conn dialled) s.history → (is_open s.state conn ≡ true) ⊎ IsProbe w conn
+  pub begins : AllOf (λ (s : Space). (conn : ℕ) → BeginsInOrder s conn) w.spaces
+  -- of which versions Hellos were
+  pub hellos : AllOf (λ (s : Space). (conn version : ℕ) (space : Uuid) (digest : List ℕ) → IsOneOf (message.Hello version space digest) (sent_on conn s.outputs) → SaidAs s.setting s.history conn version) w.spaces
   pub joins : (i : ℕ) (s : Space) → slice_get w.spaces i ≡ Some s → (conn : ℕ) (dialled : Option Uuid) → IsOneOf (Opened conn dialled) s.history → IsJoined w.spaces i dialled (ends_at w.pipes conn)
   pub known : AllOf Known w.spaces
   pub two : AllOf HasTwoEnds w.pipes
@@ -68,15 +75,6 @@ one-some m (x ∷ xs) [] a b = absurd b
 one-some m (x ∷ xs) (y ∷ ys) (inl e) (inl b) = inl (e ∙ b.0)
 one-some m (x ∷ xs) (y ∷ ys) (inr a) (inl b) = inr (one-some m xs ys a b.1)
 one-some m (x ∷ xs) (y ∷ ys) a (inr b) = inr (one-some m (x ∷ xs) ys a b)
-
-pub one-left : {A : Type 0} (x : A) (xs ys : List A) → IsOneOf x xs → IsOneOf x (xs ++ ys)
-one-left x [] ys a = absurd a
-one-left x (z ∷ zs) ys (inl e) = inl e
-one-left x (z ∷ zs) ys (inr a) = inr (one-left x zs ys a)
-
-pub one-right : {A : Type 0} (x : A) (xs ys : List A) → IsOneOf x ys → IsOneOf x (xs ++ ys)
-one-right x [] ys a = a
-one-right x (z ∷ zs) ys a = inr (one-right x zs ys a)
 
 pub one-total : {A : Type 0} (f : A → ℕ) (x : A) (xs : List A) → IsOneOf x xs → f x ≤ total f xs
 one-total f x [] a = absurd a

@@ -1,12 +1,12 @@
 -- The table of the hand-shake: which frames may be under way along a connection, at each of its stages (this project's own protocol).
-use Rattle.std.specs.Prelude.{◌≡◌, ◌⊎◌, ℕ, true, false, List, [], ◌∷◌, ◌++◌, None, Some, slice_get}
+use Rattle.std.specs.Prelude.{◌≡◌, ◌⊎◌, ℕ, true, false, List, [], ◌++◌, None, Some, slice_get}
 use Rattle.net_message.specs.declared.message.Message.{Message}
 use Rattle.uuid.specs.declared.Uuid.{Uuid}
 use Rattle.sp_rules.specs.Classes.{Setting}
 use Rattle.sp_rules.specs.State.{Connection, connection_at}
 use Rattle.sp_rules.specs.Worlds.{World, Space, End, Pipe, Over, WorldEvent, side, other, run, new_world}
 use Rattle.sp_laws.specs.Inbound.{opened}
-use Rattle.sp_order_laws.specs.Hellos.{own_hello, NoHellos, BeginsWithHello}
+use Rattle.sp_order_laws.specs.Hellos.{NoHellos, BeginsWithHello, SaysEarly, SaysFirst, says_late}
 
 -- At the end to which frames come the connection is open, and no Hello came.
 pub record HasNotHeard (s : Space) (conn : ℕ) : Type 0 where
@@ -25,10 +25,12 @@ pub record HasHeard (s : Space) (conn : ℕ) : Type 0 where
 pub record IsInTable (s there : Space) (conn : ℕ) (queue lost : List Message) : Type 0 where
   -- the other end has not opened: nothing
   pub unopened : opened conn there.history ≡ false → queue ++ lost ≡ []
-  -- the other end has, and no Hello came here: its Hello, and then no other
+  -- the other end has, and no Hello came here: its Hello first, and then no other
   pub first : opened conn there.history ≡ true → HasNotHeard s conn → BeginsWithHello there.setting (queue ++ lost)
-  -- nor did one come there: its Hello alone
-  pub alone : HasNotHeard there conn → HasNotHeard s conn → queue ++ lost ≡ own_hello there.setting ∷ []
+  -- which is there, if it says that early
+  pub early : SaysEarly there conn → HasNotHeard s conn → queue ++ lost ≡ [] → ⊥
+  -- nor did one come there: its Hello alone, or nothing if it says that late
+  pub alone : (n : HasNotHeard there conn) → HasNotHeard s conn → SaysFirst there.setting (says_late there.setting n.row.dialled) (queue ++ lost)
   -- a Hello came here: no other is under way, and none at all before one came there
   pub later : HasHeard s conn → NoHellos (queue ++ lost)
   pub answered : HasHeard s conn → HasNotHeard there conn → queue ++ lost ≡ []

@@ -1,12 +1,12 @@
--- Which frames close no connection: a first Hello of the same digest, from the space that was dialled; then frames of their direction that ask under a number above the last, or answer what was asked and not answered (this project's own protocol).
-use Rattle.std.specs.Prelude.{◌≡◌, ℕ, ◌&&◌, not, nat_le, is_some, is_none, Bool, true, false, List, Some, find, if◌then◌else◌}
+-- Which frames close no connection: a first Hello of the same digest, from the space that was dialled, of a version that the space speaks, and said if it dialled; then frames of their direction that ask under a number above the last, name no more ids than the connection's version allows, or answer what was asked and not answered (this project's own protocol).
+use Rattle.std.specs.Prelude.{◌≡◌, ℕ, ◌==◌, ◌&&◌, not, nat_le, is_some, is_none, Bool, true, false, List, Some, find, if◌then◌else◌}
 use Rattle.std.specs.List.{list_any}
 use Rattle.std.specs.Str.{bytes_eq}
 use Rattle.net_message.specs.declared.message.Message.{Message}
 use Rattle.net_message.specs.declared.message.Message.TheVariants as message
 use Rattle.sp_rules.specs.Classes.{Setting}
 use Rattle.sp_rules.specs.Events.{Event, Received}
-use Rattle.sp_rules.specs.Frames.{is_asking, is_wrong_way, is_acked_by, tells_on}
+use Rattle.sp_rules.specs.Frames.{is_asking, is_wrong_way, is_acked_by, tells_on, fit_frame}
 use Rattle.sp_rules.specs.Lists.{with_some}
 use Rattle.sp_rules.specs.Origins.{IsTaken}
 use Rattle.sp_rules.specs.ParkedFrames.{is_asked_on}
@@ -18,7 +18,7 @@ use Rattle.sp_laws.specs.Inbound.{OpensOnce}
 
 -- a first frame
 abbrev pub is_welcome_first : Setting → Connection → Message → Bool
-is_welcome_first g c (message.Hello version space digest) = with_some c.dialled (bytes_eq digest g.digest) (λ peer. bytes_eq digest g.digest && bytes_eq space peer)
+is_welcome_first g c (message.Hello version space digest) = with_some c.dialled (bytes_eq digest g.digest && nat_le version g.version) (λ peer. bytes_eq digest g.digest && bytes_eq space peer && version == c.version)
 is_welcome_first g c _ = false
 
 -- a frame after the Hello, of its direction
@@ -29,9 +29,9 @@ is_welcome_later s c (message.Returned number fuel value) = is_some (find (is_as
 is_welcome_later s c (message.Threw number class) = is_some (find (is_asked_on c.number number) s.requests)
 is_welcome_later s c (message.Spent number) = is_some (find (is_asked_on c.number number) s.requests)
 is_welcome_later s c (message.Ack number) = list_any (is_acked_by c.number number) s.results
-is_welcome_later s c (message.Dirty sequence period objects) = true
+is_welcome_later s c (message.Dirty sequence period objects) = fit_frame c objects
 is_welcome_later s c (message.Lease sequence period) = is_some (find (tells_on true c.number sequence) s.requests)
-is_welcome_later s c (message.Clean sequence strong objects) = true
+is_welcome_later s c (message.Clean sequence strong objects) = fit_frame c objects
 is_welcome_later s c (message.Cleaned sequence) = is_some (find (tells_on false c.number sequence) s.requests)
 is_welcome_later s c (message.Lookup number name) = not (nat_le number c.last)
 

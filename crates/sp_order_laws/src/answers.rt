@@ -54,10 +54,11 @@ pub fn leases_answer_dirty_calls()
     parked_results_came();
 }
 
-/// In every run of every world of spaces that have ids of their own and one digest, in which no Dial is
-/// refused and no read or write fails: no end of a connection is over, each connection that a space opened
-/// joins it with the space that it dialled, or that dialled it, and is open, and each frame that is first in
-/// its queue is welcome.
+/// In every run of every world of spaces of version 1 or 2 that have ids of their own and one digest, in
+/// which no Dial is refused and no read or write fails: no end of a connection is over, each connection
+/// that a space opened joins it with the space that it dialled, or that dialled it, and is open, and each
+/// frame that is first in its queue is welcome; but for a connection that tried version 2 in vain, on
+/// which Hellos alone are sent: the space that dialled said 2 there, and the other is of version 1.
 pub fn nothing_closes()
     ensures { NothingCloses }
 {
@@ -84,10 +85,10 @@ pub fn parked_frames_came()
     parked_results_came();
 }
 
-/// In every run of every world of spaces that have ids of their own and one digest, in which no Dial is
-/// refused and no read or write fails: of each Call on its way, and of each that is parked, a task of the
-/// caller waits that holds the target and the references among the arguments; and each result on its way, or
-/// parked at the caller, the callee holds until its Ack.
+/// In every run of every world of spaces of version 1 or 2 that have ids of their own and one digest, in
+/// which no Dial is refused and no read or write fails: of each Call on its way, and of each that is
+/// parked, a task of the caller waits that holds the target and the references among the arguments; and
+/// each result on its way, or parked at the caller, the callee holds until its Ack.
 pub fn senders_hold()
     ensures { SendersHold }
 {
@@ -123,8 +124,9 @@ pub fn owners_hear_what_came()
     ensures { OwnersHearWhatCame }
 {}
 
-/// In every run of every world of spaces that have ids of their own and one digest, in which no Dial is
-/// refused and no read or write fails: a dirty or clean call that is on its way is late for no object.
+/// In every run of every world of spaces of version 1 or 2 that have ids of their own and one digest, in
+/// which no Dial is refused and no read or write fails: a dirty or clean call that is on its way is late
+/// for no object.
 pub fn calls_come_in_time()
     ensures { CallsComeInTime }
 {

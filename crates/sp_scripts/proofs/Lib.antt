@@ -5,3 +5,4 @@ pub mod FuelPlays
 pub mod LeasesPlays
 pub mod ThirdSpacesPlays
 pub mod ValuesPlays
+pub mod VersionsPlays

@@ -9,3 +9,4 @@ pub mod Programs
 pub mod Scripts
 pub mod ThirdSpacesScripts
 pub mod ValuesScripts
+pub mod VersionsScripts

@@ -171,5 +171,6 @@ setting_of id = record {
   classes = script_classes;
   id = id;
   digest = 9 ∷ [];
+  version = 1;
   limits = record { heap = 65536; stack = 16384; references = 1024; fuel = 1000000 };
 }

@@ -5,6 +5,7 @@ ghost use Rattle.sp_scripts.specs.FuelScripts.{OneSpace, TwoSpaces, FuelOfFiveRo
 ghost use Rattle.sp_scripts.specs.FailuresScripts.{AckLost, CallLost, CallReadFails, CallWrittenThenFails, HelloReadFails, NoRetry, RecursionFails, RefusedThenOpen, ReplyQueuedReadFails, ReturnedLostHolds, TaskDropsResult, ParkedCallDropped};
 ghost use Rattle.sp_scripts.specs.LeasesScripts.{WithdrawnObject, CleanNotRepeatedWithHolder, CleanRepeatedUntilNotYet, LastHolderOfTwo, LateDirtyAfterStrongClean, LookupNeedsAckOfLease, MomentBelow, RenewalFailedAgain, WeakCleanForgets, OvertakenLease, LeaseOfAnOvertakenDirty, ParkedCallIsAReason, KeptFar, ChurnCleans, CycleStays, CellMadeAfar};
 ghost use Rattle.sp_scripts.specs.ThirdSpacesScripts.{ThirdSpace, ThirdSpaceSwept, FetchThroughThird, FreshRoundTrip, EntryBeforeStart};
+ghost use Rattle.sp_scripts.specs.VersionsScripts.{BothOfVersion2, OwnerOfVersion1, ClientOfVersion1, ThirdOfVersion2};
 ghost use Rattle.sp_scripts.specs.BadLinesScripts.{BadLookupSelf, BadRootKind, BadRootNoHolder, LapsedLeaseIsNoRootArgument, BadSpace};
 ghost use Rattle.sp_scripts.specs.Answers.{RightHello, WrongDigest, WrongId, NoHello, RefusedDial, DialGivenOnce, ClosedByThoseThatAsk, ClosedByThoseThatAnswer, UnfitReplies, OrderOfFrames, FailureOfAnOvertakenDirty, Refusals, RefusalsOfLentTasks, HeldByATask, HeldByAField, HeldAfterTheEnd, TooManyReferences};
 
@@ -79,6 +80,15 @@ pub fn scripts_of_third_spaces()
     ensures fetch_through_third { FetchThroughThird }
     ensures fresh_round_trip { FreshRoundTrip }
     ensures entry_before_start { EntryBeforeStart }
+{}
+
+/// The script of two spaces shows and spends the same if both are of version 2 of the frames, and if the
+/// owner or the client alone is; and so does a script of three, of which the third alone is.
+pub fn scripts_of_versions()
+    ensures both_of_version_2 { BothOfVersion2 }
+    ensures owner_of_version_1 { OwnerOfVersion1 }
+    ensures client_of_version_1 { ClientOfVersion1 }
+    ensures third_of_version_2 { ThirdOfVersion2 }
 {}
 
 /// Scripts with a line that is refused say so.
