@@ -1,6 +1,6 @@
 -- What is kept of the remote instances changes by Sweeps and by operations on them alone: each other rule leaves it as it was.
 use mathlib.Core.Path.{sym, ap, ◌∙◌}
-use Rattle.std.specs.Prelude.{◌≡◌, refl, ℕ, ◌+◌, not, ◌||◌, ◌&&◌, nat_le, nat_lt, is_none, Bool, true, false, List, [], ◌∷◌, Option, None, Some, Result, Ok, Err, filter, find, length, map, ◌⊎◌, if◌then◌else◌}
+use Rattle.std.specs.Prelude.{◌≡◌, refl, ℕ, ◌+◌, not, ◌==◌, ◌||◌, ◌&&◌, nat_le, nat_lt, is_none, is_some, Bool, true, false, List, [], ◌∷◌, Option, None, Some, Result, Ok, Err, filter, find, length, map, ◌⊎◌, if◌then◌else◌}
 use Rattle.std.specs.List.{list_any}
 use Rattle.space_ids.specs.declared.ids.ClassId.{ClassId}
 use Rattle.dgc_client.specs.History as lease_events
@@ -240,10 +240,21 @@ fail_write_keeps F conn unsent e = end_connection_keeps F _ conn e
 
 -- ---- frames
 
+say_hello_keeps : {g : Setting} {P : State → Type 0} (F : IsStored g P) {s : State} (version conn : ℕ) → P s → P (Frames.say_hello g version conn s)
+say_hello_keeps {g} F {s = s} version conn e = F.frame (State.send Rattle.sp_rules.specs.Events.Hellos conn (message.Hello version g.id g.digest) s) _ refl (send_keeps F _ conn _ e)
+
+dial_again_keeps : {g : Setting} {P : State → Type 0} (F : IsStored g P) {s : State} (peer : Uuid) → P s → P (Requests.dial peer s)
+unfolding Requests.dial
+dial_again_keeps F {s = s} peer e = if_keeps F (is_some (State.connection_to s peer) || State.is_dialling s peer) e (F.frame s _ refl e)
+
+redial_keeps : {g : Setting} {P : State → Type 0} (F : IsStored g P) {s : State} (peer : Uuid) (conn : ℕ) → P s → P (Endings.redial peer conn s)
+unfolding Endings.redial
+redial_keeps F {s = s} peer conn e = dial_again_keeps F peer (F.frame _ _ refl (each_keeps F _ _ (λ t p h. let_go_keeps F p t.parked (F.frame t _ refl h)) (F.frame s _ refl e)))
+
 first_frame_keeps : {g : Setting} {P : State → Type 0} (F : IsStored g P) {s : State} (c : Connection) (m : Message) → P s → P (Frames.first_frame g c m s)
 unfolding Frames.first_frame
-first_frame_keeps {g} {P} F {s = s} c (message.Hello version space digest) e = some_keeps F c.dialled _ (if_keeps F _ known (close_keeps F _ c.number e))
-    (λ peer is. if_keeps F _ (flush_keeps F peer c.number known) (close_keeps F _ c.number e))
+first_frame_keeps {g} {P} F {s = s} c (message.Hello version space digest) e = some_keeps F c.dialled _ (if_keeps F _ (if_keeps F (nat_le 2 g.version) (say_hello_keeps F _ c.number known) known) (close_keeps F _ c.number e))
+    (λ peer is. if_keeps F _ (if_keeps F (version == c.version) (flush_keeps F peer c.number known) (if_keeps F (nat_le 2 c.version && version == 1) (redial_keeps F peer c.number e) (close_keeps F _ c.number e))) (close_keeps F _ c.number e))
   where
     known : P (Frames.greeted space c.number s)
     known = F.frame s _ refl e
@@ -316,9 +327,9 @@ got_keeps F c (message.Returned number fuel value) e = answered_by_keeps F c num
 got_keeps {g} F c (message.Threw number class) e = answered_by_keeps F c number _ (λ asked. ends_as_keeps F c number (λ a. Frames.thrown_reply g class) asked e) e
 got_keeps {g} F c (message.Spent number) e = answered_by_keeps F c number _ (λ asked. ends_as_keeps F c number (Frames.spent_reply g) asked e) e
 got_keeps F c (message.Ack number) e = got_ack_keeps F c number e
-got_keeps F {s = s} c (message.Dirty sequence period objects) e = send_keeps F _ c.number _ (F.frame s _ refl e)
+got_keeps F {s = s} c (message.Dirty sequence period objects) e = if_keeps F (Frames.fit_frame c objects) (send_keeps F _ c.number _ (F.frame s _ refl e)) (close_keeps F _ c.number e)
 got_keeps F c (message.Lease sequence period) e = told_by_keeps F c true sequence _ e
-got_keeps F {s = s} c (message.Clean sequence strong objects) e = send_keeps F _ c.number _ (F.frame s _ refl e)
+got_keeps F {s = s} c (message.Clean sequence strong objects) e = if_keeps F (Frames.fit_frame c objects) (send_keeps F _ c.number _ (F.frame s _ refl e)) (close_keeps F _ c.number e)
 got_keeps F c (message.Cleaned sequence) e = told_by_keeps F c false sequence _ e
 got_keeps F c (message.Lookup number name) e = got_lookup_keeps F c number name e
 
@@ -347,8 +358,8 @@ lookup_keeps F {s = s} peer name e = if_keeps F (Rattle.sp_registry.specs.Names.
 
 opened_keeps : {g : Setting} {P : State → Type 0} (F : IsStored g P) {s : State} (conn : ℕ) (dialled : Option Uuid) → P s → P (OwnEvents.on_opened g conn dialled s)
 unfolding OwnEvents.on_opened
-opened_keeps F {s = s} conn None e = send_keeps F _ conn _ (F.frame s _ refl e)
-opened_keeps F {s = s} conn (Some peer) e = send_keeps F _ conn _ (F.frame s _ refl e)
+opened_keeps {g} F {s = s} conn None e = if_keeps F (nat_le 2 g.version) (F.frame s _ refl e) (say_hello_keeps F 1 conn (F.frame s (OwnEvents.add_connection conn None s) refl e))
+opened_keeps F {s = s} conn (Some peer) e = say_hello_keeps F _ conn (F.frame s (OwnEvents.dialled_no_more (Some peer) (OwnEvents.add_connection conn (Some peer) s)) refl e)
 
 refused_keeps : {g : Setting} {P : State → Type 0} (F : IsStored g P) {s : State} (peer : Uuid) → P s → P (OwnEvents.on_refused g peer s)
 unfolding OwnEvents.on_refused

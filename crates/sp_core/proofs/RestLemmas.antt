@@ -48,7 +48,7 @@ ask-fresh s q is = by (requests.hello_came (connection_to s q.peer))
     goes : (turn : Turn) (conn : ℕ) (asked : Asked) → NoFresh (requests.goes_out turn conn q.peer asked s)
     goes turn conn (Calls number task lent kind m) = either NoFresh (is_open s conn) _ _ is is
     goes turn conn (LooksUp number task name) = either NoFresh (is_open s conn) _ _ is is
-    goes turn conn (Tells call group) = each-keeps NoFresh (requests.part_goes_out turn conn call) (λ t part fresh. part-fresh t turn conn call part fresh) (groups.parts_of 1024 group) s is
+    goes turn conn (Tells call group) = each-keeps NoFresh (requests.part_goes_out turn conn call) (λ t part fresh. part-fresh t turn conn call part fresh) (groups.parts_of (requests.most_on s conn) group) s is
 
     by : (o : Option ℕ) → NoFresh (with_some o (requests.dial q.peer (requests.add_request q s)) (λ conn. requests.go_out (requests.turn_asked q.asked) conn q s))
     by None = either NoFresh (is_some (connection_to s q.peer) || state.is_dialling s q.peer) _ _ is is

@@ -35,11 +35,18 @@ impl SpaceCore {
     ghost use Rattle.sp_core.specs.Cores.{IsCore};
 
     /// The core of the space of this id, over class files of this digest, whose roots start with at most this
-    /// fuel. Nothing has happened to it.
-    pub fn new(alloc: Global, id: Uuid, digest: Digest, fuel: u64) -> Result<SpaceCore, AllocError>
-        ensures { IfOk result (λ core. (g : Setting) → g.id ≡ id → g.digest ≡ digest → g.limits.fuel ≡ fuel → IsCore g opening core) }
+    /// fuel, and which speaks this version of the protocol at most. Nothing has happened to it.
+    pub fn new(
+        alloc: Global,
+        id: Uuid,
+        digest: Digest,
+        fuel: u64,
+        version: u8,
+    ) -> Result<SpaceCore, AllocError>
+        ensures { IfOk result (λ core. (g : Setting) → g.id ≡ id → g.digest ≡ digest
+            → g.limits.fuel ≡ fuel → g.version ≡ version → IsCore g opening core) }
     {
-        let first = SpaceState::new(alloc, id, digest)?;
+        let first = SpaceState::new(alloc, id, version, digest)?;
         let state = BoxedState::new(alloc, first)?;
         Ok(SpaceCore {
             alloc,

@@ -10,3 +10,4 @@ pub mod ToldLemmas
 pub mod TaskLemmas
 pub mod NeedLemmas
 pub mod ForeignLemmas
+pub mod RedialLemmas

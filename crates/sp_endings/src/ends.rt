@@ -1,14 +1,14 @@
 //! Connections that end, peers that refuse, and what was asked on them.
 
-ghost use Rattle.std.specs.Prelude.{◌≡◌, ◌==◌, ℕ, List, [], OnOk, filter, true};
+ghost use Rattle.std.specs.Prelude.{◌≡◌, ◌==◌, ℕ, List, [], None, Some, OnOk, filter, true};
 ghost use Rattle.sp_requests.specs.Thrown.{thrown_class};
 ghost use Rattle.sp_endings.specs.Ends.{AreThrown, end_call, end_each, fail_out};
 ghost use Rattle.sp_living.specs.Livings.{IsLiving};
 ghost use Rattle.sp_rules.specs.Classes.{Setting};
-ghost use Rattle.sp_rules.specs.Endings.{by_unmarshal, close, end_connection, fail_write, unpark, unsent_calls};
+ghost use Rattle.sp_rules.specs.Endings.{by_unmarshal, close, end_connection, fail_write, redial, unpark, unsent_calls};
 ghost use Rattle.sp_rules.specs.Lists.{each};
 ghost use Rattle.sp_rules.specs.OwnEvents.{on_refused};
-ghost use Rattle.sp_rules.specs.State.{Asked as Question, ParkedFrame as Row, Request, State, is_dialling};
+ghost use Rattle.sp_rules.specs.State.{Asked as Question, Connection as Line, ParkedFrame as Row, Request, State, connection_at, is_dialling};
 ghost use Rattle.sp_tasks.specs.Lent.{KeepsLent};
 ghost use Rattle.sp_transport.specs.Answers.{AreEnded};
 ghost use Rattle.space_ids.specs.declared.ids.ClassId.{ClassId as Class};
@@ -50,6 +50,18 @@ pub fn close<C: CallClasses>(
     let class = classes.thrown(exception);
     end_as(living, classes, conn, 0, Thrown::all(class))?;
     living.say(Output::Close(conn))
+}
+
+/// Gives a connection up on which a peer that was dialled answered that it speaks version 1 alone: the peer is
+/// noted, and dialled again once the connection is closed. All that is asked of it waits on.
+pub fn redial(living: &mut Living, conn: u64, peer: &Uuid) -> Result<(), AllocError>
+    ensures redialled { OnOk result ((g : Setting) (s : State) (c : Line) → IsLiving g s living.old
+        → s.notes ≡ [] → connection_at s conn ≡ Some c → c.dialled ≡ Some peer.now → c.peer ≡ None
+        → IsLiving g (redial peer.now conn s) living.new) }
+    ensures lent { OnOk result (KeepsLent living.old.tasks living.new.tasks) }
+{
+    unpark(living, conn)?;
+    living.redial(conn, peer)
 }
 
 /// Ends a connection of which the last frames, this many, were not sent whole. Calls and lookups among

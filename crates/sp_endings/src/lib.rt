@@ -5,7 +5,7 @@
 //! own crate: what follows from the calls of a `Living` stands above it.
 #![tactic(auto)]
 
-pub use ends::{close, end_connection, fail_write, refuse};
+pub use ends::{close, end_connection, fail_write, redial, refuse};
 pub use failing::fail_group;
 pub use foreign::{foreign_among, foreign_in};
 pub use frames::{go_all, park};

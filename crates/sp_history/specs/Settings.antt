@@ -28,5 +28,6 @@ no_setting = record {
   };
   id = [];
   digest = [];
+  version = 2;
   limits = record { heap = 0; stack = 0; references = 0; fuel = 0 };
 }

@@ -8,9 +8,9 @@ use Rattle.net_message.specs.declared.message.Message.TheVariants as message
 use Rattle.uuid.specs.declared.Uuid.{Uuid}
 use Rattle.sp_rules.specs.Events.{Dial, Turn, Waited}
 use Rattle.sp_rules.specs.Lists.{each, with_some}
-use Rattle.sp_rules.specs.Requests.{add_request, ask, ask_fresh, dial, due_groups, flush_waiting, go_out, goes_out, group_frame, hello_came, make_due, make_group, part_goes_out, settle, turn_asked, waits_for, without_waiting}
-use Rattle.sp_rules.specs.State.{State, Asked, Calls, LooksUp, Tells, Out, Request, Waits, connection_to, is_dialling, say, send}
-use Rattle.sp_living.proofs.LivingLemmas.{Own, own_of, sent-own}
+use Rattle.sp_rules.specs.Requests.{add_request, ask, ask_fresh, dial, due_groups, flush_waiting, go_out, goes_out, group_frame, hello_came, make_due, make_group, most_on, part_goes_out, settle, turn_asked, waits_for, without_waiting}
+use Rattle.sp_rules.specs.State.{State, Asked, Calls, LooksUp, Tells, Out, Request, Waits, connection_to, is_dialling, say}
+use Rattle.sp_living.proofs.LivingLemmas.{own_of, sent-own}
 
 each-own : {A : Type 0} (f : State → A → State) → ((s : State) (x : A) → own_of (f s x) ≡ own_of s) → (xs : List A) (s : State) → own_of (each f xs s) ≡ own_of s
 unfolding each
@@ -28,7 +28,7 @@ part-own turn conn call s part =
 goes-own : (turn : Turn) (conn : ℕ) (peer : Uuid) (a : Asked) (s : State) → own_of (goes_out turn conn peer a s) ≡ own_of s
 goes-own turn conn peer (Calls number task lent kind m) s = sent-own turn conn m (add_request (record { peer = peer; asked = Calls number task lent kind m; stage = Out conn 0 }) s)
 goes-own turn conn peer (LooksUp number task name) s = sent-own turn conn (message.Lookup number name) (add_request (record { peer = peer; asked = LooksUp number task name; stage = Out conn 0 }) s)
-goes-own turn conn peer (Tells call group) s = each-own (part_goes_out turn conn call) (part-own turn conn call) (groups.parts_of 1024 group) s
+goes-own turn conn peer (Tells call group) s = each-own (part_goes_out turn conn call) (part-own turn conn call) (groups.parts_of (most_on s conn) group) s
 
 out-own : (turn : Turn) (conn : ℕ) (r : Request) (s : State) → own_of (go_out turn conn r s) ≡ own_of s
 unfolding go_out
@@ -40,7 +40,7 @@ flush-own peer conn s = each-own (λ t r. go_out Waited conn r t) (λ t r. out-o
 
 -- ---- the end of an event
 
-dial-own : (peer : Uuid) (s : State) → own_of (dial peer s) ≡ own_of s
+pub dial-own : (peer : Uuid) (s : State) → own_of (dial peer s) ≡ own_of s
 unfolding dial
 dial-own peer s = elim (is_some (connection_to s peer) || is_dialling s peer) as (λ b. own_of (cond b s (say (Dial peer) (record s { dialling = s.dialling ++ peer ∷ [] }))) ≡ own_of s) [ true ↦ refl | false ↦ refl ]
 

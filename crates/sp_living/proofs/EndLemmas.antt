@@ -1,7 +1,6 @@
 -- Nothing is asked on a connection that a peer dialled.
-use Rattle.std.proofs.Common.{◌≡◌, ℕ, Bool, false, List, [], ◌∷◌, None, refl, ap}
+use Rattle.std.proofs.Common.{◌≡◌, ℕ, false, List, [], ◌∷◌, None, refl, ap}
 use Rattle.std.specs.Prelude.{filter, not}
-use Rattle.std.specs.List.{flat_map}
 use Rattle.sp_rules.specs.Endings.{is_of_connection}
 use Rattle.sp_rules.specs.ParkedFrames.{remove_requests}
 use Rattle.sp_rules.specs.State.{State, Request}

@@ -14,3 +14,5 @@ pub mod ToldLemmas
 pub mod AskedLemmas
 pub mod LookupLemmas
 pub mod EndLemmas
+pub mod OpenLemmas
+pub mod RedialLemmas

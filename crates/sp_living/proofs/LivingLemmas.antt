@@ -5,11 +5,8 @@ use Rattle.space_ids.specs.declared.ids.ForeignId.{ForeignId}
 use Rattle.net_message.specs.declared.message.Message.{Message}
 use Rattle.net_message.specs.declared.message.Message.TheVariants as message
 use Rattle.sp_rules.specs.Classes.{Setting}
-use Rattle.uuid.specs.declared.Uuid.{Uuid}
-use Rattle.sp_rules.specs.Events.{Acks, Hellos, Output, Started, Ended, Withdrawn, Denied, Send, Dial, Close, Ready, Sends, Turn}
-use Rattle.sp_rules.specs.OwnEvents.{add_connection, dialled_no_more}
+use Rattle.sp_rules.specs.Events.{Acks, Output, Started, Ended, Withdrawn, Denied, Send, Dial, Close, Ready, Sends, Turn}
 use Rattle.sp_rules.specs.Space.{conclude, record_sent}
-use Rattle.sp_living.specs.Opening.{opened_with}
 use Rattle.sp_rules.specs.Holders.{drop_ids, hold_ids, holder_comes, holder_goes}
 use Rattle.sp_rules.specs.Lists.{each, with_some}
 use Rattle.sp_rules.specs.ParkedFrames.{is_call_on, remove_requests}
@@ -52,6 +49,7 @@ pub beside : (s : State) (made : ℕ) (tasks : List rules.Living) (results : Lis
 beside s made tasks results parked retired t a = record {
   leases = a.leases;
   connections = a.connections;
+  noted = a.noted;
   asked = a.asked;
   calls_made = a.calls_made;
   groups_made = a.groups_made;
@@ -115,10 +113,6 @@ acked-own conn number s =
     ]
 
 -- ---- connections, and what was sent on them
-
-pub opened-own : (dialled : Option Uuid) (conn : ℕ) (hello : Message) (s : State) → own_of (opened_with dialled conn hello s) ≡ own_of s
-opened-own None conn hello s = sent-own Hellos conn hello (add_connection conn None s)
-opened-own (Some peer) conn hello s = sent-own Hellos conn hello (dialled_no_more (Some peer) (add_connection conn (Some peer) s))
 
 recorded-own : (s : State) (o : Output) → own_of (record_sent s o) ≡ own_of s
 recorded-own s (Send conn m) = refl

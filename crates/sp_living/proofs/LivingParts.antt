@@ -21,6 +21,7 @@ pub record LivingParts : Type 0 where
   pub results : List KeptResult
   pub connections : List Connection
   pub dialling : List Uuid
+  pub noted : List Uuid
   pub parked : List rules.ParkedFrame
   pub fresh : List Request
   pub notes : List Note
@@ -37,6 +38,7 @@ living_parts s = record {
   results = s.results;
   connections = s.connections;
   dialling = s.dialling;
+  noted = s.noted;
   parked = s.parked;
   fresh = s.fresh;
   notes = s.notes;
@@ -58,6 +60,7 @@ of_parts p = record {
   results = p.results;
   connections = p.connections;
   dialling = p.dialling;
+  noted = p.noted;
   parked = p.parked;
   retired = 0;
   fresh = p.fresh;
@@ -71,6 +74,7 @@ to-parts g s l is = record {
   transport = record {
     leases = is.transport.leases;
     connections = is.transport.connections;
+    noted = is.transport.noted;
     asked = is.transport.asked;
     calls_made = is.transport.calls_made;
     groups_made = is.transport.groups_made;
@@ -90,6 +94,7 @@ from-parts g s l is = record {
   transport = record {
     leases = is.transport.leases;
     connections = is.transport.connections;
+    noted = is.transport.noted;
     asked = is.transport.asked;
     calls_made = is.transport.calls_made;
     groups_made = is.transport.groups_made;

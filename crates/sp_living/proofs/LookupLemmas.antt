@@ -1,11 +1,10 @@
 -- A lookup that the space makes.
-use Rattle.std.proofs.Common.{◌≡◌, ℕ, ◌+◌, ◌≤◌, ◌<◌, ◌^◌, arith, Bool, true, false, cond, List, [], ◌∷◌, refl, sym, ap, subst, ◌∙◌}
+use Rattle.std.proofs.Common.{◌≡◌, ℕ, ◌+◌, ◌≤◌, arith, true, cond, List, [], ◌∷◌, sym, ap, subst, ◌∙◌}
 use Rattle.uuid.specs.declared.Uuid.{Uuid}
 use Rattle.sp_registry.specs.Names.{is_name}
 use Rattle.sp_registry.specs.declared.fault.RegistryFault.TheVariants.{BadName}
 use Rattle.sp_rules.specs.Classes.{Setting}
 use Rattle.sp_rules.specs.Events.{Denied, Started}
-use Rattle.sp_rules.specs.Laws.{AllOf}
 use Rattle.sp_rules.specs.OwnEvents.{on_lookup}
 use Rattle.sp_rules.specs.State as rules
 use Rattle.sp_rules.specs.State.{State, LooksUp, Waits, say}

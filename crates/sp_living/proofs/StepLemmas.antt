@@ -6,7 +6,7 @@ use Rattle.std.proofs.lemmas.Bool.{eq-eqb, eqb-true, false≢true}
 use Rattle.space_ids.specs.declared.ids.ForeignId.{ForeignId}
 use Rattle.space_ids.specs.declared.ids.Ref.{Ref}
 use Rattle.space_ids.specs.declared.value.Value.{Value}
-use Rattle.sp_rules.specs.Behaviours.{Call, Outcome, Reply}
+use Rattle.sp_rules.specs.Behaviours.{Call, Reply}
 use Rattle.sp_rules.specs.Classes.{Kind, Setting}
 use Rattle.sp_rules.specs.Frames.{release}
 use Rattle.sp_rules.specs.Holders.{hold_ids, holder_comes}
@@ -16,11 +16,11 @@ use Rattle.dgc_client.specs.Table as client
 use Rattle.dgc_list.specs.History as owner
 use Rattle.sp_rules.specs.Laws.{AllOf}
 use Rattle.sp_rules.specs.Lists.{each, with_some}
-use Rattle.sp_rules.specs.LivingTasks.{after_reply, after_steps, end_at, end_with, finish_task, keep_result, outcome_of as outcome_in, park_at, park_call, reply_task, reply_to, waiting}
+use Rattle.sp_rules.specs.LivingTasks.{after_reply, after_steps, keep_result, outcome_of as outcome_in, park_at, park_call, reply_task, reply_to, waiting}
 use Rattle.sp_rules.specs.References.{references_in, with_references}
 use Rattle.sp_rules.specs.State.{State, KeptResult, Origin, RootAcked, say, set_task, task_at}
 use Rattle.sp_rules.specs.State as rules
-use Rattle.sp_rules.specs.Tasks.{Task, Stand, AsksFor, HasEnded, answer, gained, lent, stand, start, steps}
+use Rattle.sp_rules.specs.Tasks.{Task, Stand, AsksFor, answer, gained, lent, stand, start, steps}
 use Rattle.net_message.specs.declared.message.Message.TheVariants as message
 use Rattle.sp_results.specs.Held.{AreCallResults, left_at, references_of_results}
 use Rattle.sp_results.specs.declared.call_results.CallResults.{CallResults}
@@ -268,7 +268,7 @@ pub now-passed : (g : Setting) (s : State) (l : Living) (moment : ℕ) (fits : m
 now-passed g s l moment fits calls t h results now is = record {
   id = is.id;
   moment = record { same = refl; fits = fits };
-  transport = record { leases = now.leases; connections = now.connections; asked = now.asked; calls_made = now.calls_made; groups_made = now.groups_made; fresh = now.fresh; notes = now.notes; lines = now.lines };
+  transport = record { leases = now.leases; connections = now.connections; noted = now.noted; asked = now.asked; calls_made = now.calls_made; groups_made = now.groups_made; fresh = now.fresh; notes = now.notes; lines = now.lines };
   tasks = is.tasks;
   results = results-passed s.moment moment s.results l.results l.call_results calls results is.results;
   parked = is.parked;

@@ -20,6 +20,7 @@ pub transport-beside : (s : State) (results : List KeptResult) (parked : List Pa
 transport-beside s results parked t a = record {
   leases = a.leases;
   connections = a.connections;
+  noted = a.noted;
   asked = a.asked;
   calls_made = a.calls_made;
   groups_made = a.groups_made;

@@ -1,5 +1,5 @@
 -- Answers to dirty and clean calls, and connections, as the calls on the transport tell them.
-use Rattle.std.proofs.Common.{◌≡◌, ℕ, Bool, List, Option, None, Some, refl, sym, ap, ◌∙◌}
+use Rattle.std.proofs.Common.{◌≡◌, ℕ, Bool, List, Option, None, Some, sym, ap, ◌∙◌}
 use Rattle.std.specs.Prelude.{find, option_map}
 use Rattle.dgc_client.specs.History as lease_events
 use Rattle.sp_requests.specs.Tables.{seen}

@@ -4,7 +4,6 @@ pub mod Livings
 pub mod Holding
 pub mod Steps
 pub mod Hands
-pub mod Opening
 pub mod Frames
 pub mod Tickets
 pub mod Telling

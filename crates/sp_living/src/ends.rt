@@ -1,12 +1,13 @@
 //! Connections as they go, with what was asked on them.
 
-ghost use Rattle.std.specs.Prelude.{◌≡◌, [], Some, IfOk, OnOk, filter, map, true};
+ghost use Rattle.std.specs.Prelude.{◌≡◌, [], None, Some, IfOk, OnOk, filter, map, true};
 ghost use Rattle.sp_rules.specs.Classes.{Setting};
-ghost use Rattle.sp_rules.specs.Endings.{is_of_connection, orphan, unsent_calls, without_connection};
+ghost use Rattle.sp_rules.specs.Endings.{is_of_connection, note_peer, orphan, unsent_calls, without_connection};
+ghost use Rattle.sp_rules.specs.Events.{Close};
 ghost use Rattle.sp_rules.specs.OwnEvents.{dialled_no_more};
 ghost use Rattle.sp_rules.specs.ParkedFrames.{remove_requests};
-ghost use Rattle.sp_rules.specs.Requests.{waits_for};
-ghost use Rattle.sp_rules.specs.State.{Connection as Line, State, connection_at, is_dialling};
+ghost use Rattle.sp_rules.specs.Requests.{dial, waits_for};
+ghost use Rattle.sp_rules.specs.State.{Connection as Line, State, connection_at, is_dialling, say};
 ghost use Rattle.sp_transport.specs.Answers.{AreEnded};
 
 use crate::Living;
@@ -47,6 +48,21 @@ impl Living {
                 })
             }
         }
+    }
+
+    /// Lets a connection go that was dialled to a peer, before any Hello came on it, and holds its results on; notes
+    /// that the peer speaks version 1 alone, and dials it again. All that is asked of the peer waits on.
+    pub fn redial(&mut self, conn: u64, peer: &Uuid) -> Result<(), AllocError>
+        ensures tasks { self.new.tasks ≡ self.old.tasks }
+        ensures redialled { OnOk result ((g : Setting) (s : State) (c : Line)
+            → IsLiving g s self.old → s.notes ≡ [] → connection_at s conn ≡ Some c
+            → c.dialled ≡ Some peer.now → c.peer ≡ None
+            → IsLiving g (dial peer.now (say (Close conn)
+            (without_connection conn (note_peer peer.now s)))) self.new) }
+    {
+        self.orphan_results(conn)?;
+        self.transport.note(peer)?;
+        self.transport.redial(conn, peer)
     }
 
     // Holds the results of a connection that ends on. Nothing happens at a moment that cannot come.

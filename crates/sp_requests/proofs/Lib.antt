@@ -10,4 +10,5 @@ pub mod CopyLemmas
 pub mod RowLemmas
 pub mod LineLemmas
 pub mod AskedLemmas
+pub mod RestartLemmas
 pub mod CoreLemmas

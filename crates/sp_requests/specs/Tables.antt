@@ -37,7 +37,7 @@ no_more (Some peer) dialling = filter (λ p. not (bytes_eq peer p)) dialling
 
 -- a connection as it is opened
 abbrev pub opened : ℕ → Option Uuid → rules.Connection
-opened conn dialled = record { number = conn; dialled = dialled; peer = None; last = 0; sent = [] }
+opened conn dialled = record { number = conn; dialled = dialled; peer = None; version = 1; last = 0; sent = [] }
 
 -- no two connections have one number
 abbrev pub AreNumbered : List rules.Connection → Type 0
@@ -48,7 +48,7 @@ AreNumbered (c ∷ others) = AllOf (λ (d : rules.Connection). (d.number == c.nu
 
 -- what a table keeps of a connection: all but its number, and what was sent on it
 abbrev pub seen : rules.Connection → Connection
-seen c = record { dialled = c.dialled; peer = c.peer; last = c.last }
+seen c = record { dialled = c.dialled; peer = c.peer; version = c.version; last = c.last }
 
 -- how far a space is with a peer that it dialled
 abbrev pub link_of : Uuid → List rules.Connection → List Uuid → Option Link

@@ -154,6 +154,21 @@ impl Connections {
         }
     }
 
+    /// Notes the version of the Hello that this space says on a connection.
+    pub fn speak(&mut self, conn: u64, version: u8)
+        ensures spoken { (rows : List Row) (dialling : List Peer)
+            → AreConnections rows dialling self.old
+            → AreConnections (at_first (λ (c : Row). c.number == conn)
+                (λ (c : Row). record c { version = version }) rows) dialling self.new }
+        ensures room { room self.new ≡ room self.old }
+        ensures peer_room { peer_room self.new ≡ peer_room self.old }
+    {
+        match self.rows.get_index_of(&conn) {
+            Some(index) => self.rows[index].version = version,
+            None => {}
+        }
+    }
+
     /// Notes the number of a Call or Lookup that came on a connection.
     pub fn count(&mut self, conn: u64, number: u64)
         ensures counted { (rows : List Row) (dialling : List Peer) → AreConnections rows dialling self.old → AreConnections (at_first (λ (c : Row). c.number == conn) (λ (c : Row). record c { last = number }) rows) dialling self.new }

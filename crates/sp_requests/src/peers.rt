@@ -11,7 +11,7 @@ ghost use Rattle.sp_rules.specs.Frames.{answered_on, tells_on};
 ghost use Rattle.sp_rules.specs.Laws.{AllOf};
 ghost use Rattle.sp_rules.specs.Lines.{dialled_to};
 ghost use Rattle.sp_rules.specs.ParkedFrames.{is_asked_on, is_call_on};
-ghost use Rattle.sp_rules.specs.Requests.{group_frame, waits_for};
+ghost use Rattle.sp_rules.specs.Requests.{group_frame, is_waiting, waits_for};
 ghost use Rattle.sp_rules.specs.State.{Asked as Question, Connection, Out, Request, Tells, Waits};
 ghost use Rattle.sp_requests.specs.Tables.{numbered, opened};
 ghost use Rattle.sp_requests.specs.Asking.{IsNamed, asked_of, asks_by, last_call, last_sequence, number_of, sequence_of, shown, told};
@@ -169,6 +169,26 @@ impl Peers {
         match self.rows.get_index_of(peer) {
             Some(index) => self.rows[index].hello(),
             None => unreachable!(),
+        }
+    }
+
+    /// Notes that the connection to a peer goes on which nothing but the Hello went out, to be dialled again.
+    /// All that is asked of the peer waits on.
+    pub fn restart(&mut self, peer: &Uuid)
+        ensures restarted { (connections : List Connection) (requests : List Request)
+            (c : Connection) → AreAsked connections requests self.old
+            → dialled_to connections peer.now ≡ Some c
+            → AllOf (λ (r : Request). is_waiting r.stage ≡ true) (of_peer peer.now requests)
+            → AreAsked (filter (λ (d : Connection). not (d.number == c.number)) connections)
+                requests self.new }
+        ensures room { (w c g : ℕ) → HasRoom peer.now w c g self.old
+            → HasRoom peer.now w c g self.new }
+        ensures others { (other : Peer) → bytes_eq peer.now other ≡ false
+            → row_of other self.new ≡ row_of other self.old }
+    {
+        match self.rows.get_index_of(peer) {
+            Some(index) => self.rows[index].restart(),
+            None => {}
         }
     }
 

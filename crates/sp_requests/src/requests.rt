@@ -155,6 +155,20 @@ impl Requests {
         self.count_frame();
     }
 
+    /// Notes that the connection goes on which nothing but the Hello went out, to be dialled again. All that is
+    /// asked waits on.
+    pub fn restart(&mut self)
+        ensures restarted { (conn other : ℕ) (rows : List Request) (sent : List Frame)
+            → AreRequests conn rows sent self.old
+            → AllOf (λ (r : Request). is_waiting r.stage ≡ true) rows
+            → AreRequests other rows [] self.new }
+        ensures waiting_room { waiting_room self.new ≡ waiting_room self.old }
+        ensures call_room { call_room self.new ≡ call_room self.old }
+        ensures group_room { group_room self.new ≡ group_room self.old }
+    {
+        self.frames = 0;
+    }
+
     /// Notes that a call or lookup goes out now, under a number above those of all that went before on the
     /// connection. It takes no memory: the caller owes [room](Requests::reserve) for it.
     pub fn call_reserved(&mut self, number: u64, asker: Asker)

@@ -88,9 +88,11 @@ frame-may g c (message.Threw number class) s may =
 frame-may g c (message.Spent number) s may =
     QuietLemmas.answered_by_keeps (QuietLemmas.may-end-quiet g) {s = s} c number (Frames.ends_as g c number (Frames.spent_reply g)) (λ asked. QuietLemmas.ends_as_keeps (QuietLemmas.may-end-quiet g) {s = s} c number (Frames.spent_reply g) asked may) may
 frame-may g c (message.Ack number) s may = QuietLemmas.got_ack_keeps (QuietLemmas.may-end-quiet g) {s = s} c number may
-frame-may g c (message.Dirty sequence period objects) s may = QuietLemmas.send_keeps (QuietLemmas.may-end-quiet g) {s = tell_owner (owner.Dirty (Frames.client_of c.peer g.id) (Frames.that_stand s objects) sequence period) s} Replies c.number _ QuietLemmas.replies-early may
+frame-may g c (message.Dirty sequence period objects) s may = either (Frames.fit_frame c objects) _ _ (QuietLemmas.send_keeps (QuietLemmas.may-end-quiet g) {s = tell_owner (owner.Dirty (Frames.client_of c.peer g.id) (Frames.that_stand s objects) sequence period) s} Replies c.number _ QuietLemmas.replies-early may)
+    (QuietLemmas.close_keeps (QuietLemmas.may-end-quiet g) {s = s} g.classes.unmarshal c.number may)
 frame-may g c (message.Lease sequence period) s may = QuietLemmas.told_by_keeps (QuietLemmas.may-end-quiet g) {s = s} c true sequence (λ call. lease_events.DirtyAnswered call period) may
-frame-may g c (message.Clean sequence strong objects) s may = QuietLemmas.send_keeps (QuietLemmas.may-end-quiet g) {s = tell_owner (owner.Clean (Frames.client_of c.peer g.id) (Frames.that_stand s objects) sequence strong) s} Replies c.number _ QuietLemmas.replies-early may
+frame-may g c (message.Clean sequence strong objects) s may = either (Frames.fit_frame c objects) _ _ (QuietLemmas.send_keeps (QuietLemmas.may-end-quiet g) {s = tell_owner (owner.Clean (Frames.client_of c.peer g.id) (Frames.that_stand s objects) sequence strong) s} Replies c.number _ QuietLemmas.replies-early may)
+    (QuietLemmas.close_keeps (QuietLemmas.may-end-quiet g) {s = s} g.classes.unmarshal c.number may)
 frame-may g c (message.Cleaned sequence) s may = QuietLemmas.told_by_keeps (QuietLemmas.may-end-quiet g) {s = s} c false sequence lease_events.CleanAnswered may
 frame-may g c (message.Lookup number name) s may = QuietLemmas.got_lookup_keeps (QuietLemmas.may-end-quiet g) {s = s} c number name may
 

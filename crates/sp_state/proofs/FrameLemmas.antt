@@ -1,6 +1,6 @@
 -- Frames as they come on a connection: which rule takes each.
 use Rattle.std.proofs.Common.{◌≡◌, ℕ, Bool, true, false, cond, List, [], ◌∷◌, Option, None, Some, refl, sym, ap, subst, ◌∙◌, filter, unwrap_or, true≢false}
-use Rattle.std.specs.Prelude.{◌&&◌, ◌||◌, is_none, is_some, not, option_map}
+use Rattle.std.specs.Prelude.{◌==◌, ◌&&◌, ◌||◌, nat_le, is_none, is_some, not, option_map}
 use Rattle.std.specs.List.{list_any}
 use Rattle.std.specs.Str.{bytes_eq}
 use Rattle.net_message.specs.declared.message.Message.{Message}
@@ -10,13 +10,15 @@ use Rattle.uuid.specs.declared.Uuid.{Uuid}
 use Rattle.sp_requests.specs.Tables.{seen}
 use Rattle.sp_requests.specs.declared.connection.Connection.{Connection as Seen}
 use Rattle.sp_rules.specs.Classes.{Setting}
-use Rattle.sp_rules.specs.Endings.{close}
-use Rattle.sp_rules.specs.Frames.{first_frame, got, greeted, is_asking, is_wrong_way, let_go, receive, release}
+use Rattle.space_ids.specs.declared.ids.ObjId.{ObjId}
+use Rattle.sp_rules.specs.Endings.{close, redial}
+use Rattle.sp_rules.specs.Frames.{answer_clean, answer_dirty, answer_hello, answered_hello, first_frame, fit_frame, got, got_clean, got_dirty, greeted, is_asking, is_wrong_way, let_go, receive, release}
 use Rattle.sp_rules.specs.Lists.{each, with_some}
 use Rattle.sp_rules.specs.Requests.{flush_waiting}
 use Rattle.sp_rules.specs.State.{State, Connection, KeptResult, connection_at}
 use Rattle.sp_living.proofs.FoundLemmas.{number-of}
-use Rattle.sp_state.specs.Hellos.{hello_in, take_hello}
+use Rattle.sp_state.specs.Hellos.{answer_of, hello_in, take_answer, take_hello}
+use Rattle.sp_state.specs.declared.hello.Answer.TheVariants.{Agrees, OnlyVersion1, Other}
 use Rattle.sp_state.specs.Receiving.{ComesOn}
 use Rattle.sp_state.specs.Spaces.{IsSpace}
 use Rattle.sp_state.specs.declared.hello.Hello.{Hello}
@@ -91,36 +93,66 @@ unfolding first_frame
 first-other g c (message.Hello version space digest) s e = absurd (true≢false (sym (ap is_some e)))
 first-other g c _ s e = refl
 
+-- what the answer of a peer that was dialled does
+answered-as : (g : Setting) (c : Connection) (peer : Uuid) (version : ℕ) (space : Uuid) (s : State) → answered_hello g c peer version space s ≡ take_answer g c peer space (answer_of c.version version) s
+answered-as g c peer version space s = by (version == c.version) (nat_le 2 c.version && version == 1)
+  where
+    by : (a b : Bool) → cond a (flush_waiting peer c.number (greeted space c.number s)) (cond b (redial peer c.number s) (close g g.classes.unmarshal c.number s)) ≡ take_answer g c peer space (cond a Agrees (cond b OnlyVersion1 Other)) s
+    by true b = refl
+    by false true = refl
+    by false false = refl
+
 pub first-hello : (g : Setting) (c : Connection) (m : Message) (s : State) (hello : Hello) → Some hello ≡ hello_in m → first_frame g c m s ≡ take_hello g c hello s
 unfolding first_frame
 first-hello g c (message.Hello version space digest) s hello e =
-    let same : record { space = space; digest = digest } ≡ hello = sym (ap (λ (o : Option Hello). unwrap_or o hello) e) in
-    ap (λ (h : Hello). take_hello g c h s) same
+    let same : record { version = version; space = space; digest = digest } ≡ hello = sym (ap (λ (o : Option Hello). unwrap_or o hello) e) in
+    (λ j. with_some c.dialled
+    (cond (bytes_eq digest g.digest && nat_le version g.version) (answer_hello g version c.number (greeted space c.number s)) (close g g.classes.unmarshal c.number s))
+    (λ peer. cond (bytes_eq digest g.digest && bytes_eq space peer) (answered-as g c peer version space s j) (close g g.classes.connect c.number s)))
+    ∙ ap (λ (h : Hello). take_hello g c h s) same
 first-hello g c _ s hello e = absurd (true≢false (ap is_some e))
 
 hello-cases : (g : Setting) (c : Connection) (hello : Hello) (s : State) (dialled : Option Uuid) → c.dialled ≡ dialled
     → take_hello g c hello s ≡ with_some dialled
-    (cond (bytes_eq hello.digest g.digest) (greeted hello.space c.number s) (close g g.classes.unmarshal c.number s))
-    (λ peer. cond (bytes_eq hello.digest g.digest && bytes_eq hello.space peer) (flush_waiting peer c.number (greeted hello.space c.number s)) (close g g.classes.connect c.number s))
+    (cond (bytes_eq hello.digest g.digest && nat_le hello.version g.version) (answer_hello g hello.version c.number (greeted hello.space c.number s)) (close g g.classes.unmarshal c.number s))
+    (λ peer. cond (bytes_eq hello.digest g.digest && bytes_eq hello.space peer) (take_answer g c peer hello.space (answer_of c.version hello.version) s) (close g g.classes.connect c.number s))
 hello-cases g c hello s dialled is = ap (λ (d : Option Uuid). with_some d
-    (cond (bytes_eq hello.digest g.digest) (greeted hello.space c.number s) (close g g.classes.unmarshal c.number s))
-    (λ peer. cond (bytes_eq hello.digest g.digest && bytes_eq hello.space peer) (flush_waiting peer c.number (greeted hello.space c.number s)) (close g g.classes.connect c.number s))) is
+    (cond (bytes_eq hello.digest g.digest && nat_le hello.version g.version) (answer_hello g hello.version c.number (greeted hello.space c.number s)) (close g g.classes.unmarshal c.number s))
+    (λ peer. cond (bytes_eq hello.digest g.digest && bytes_eq hello.space peer) (take_answer g c peer hello.space (answer_of c.version hello.version) s) (close g g.classes.connect c.number s))) is
 
-pub hello-known : (g : Setting) (c : Connection) (hello : Hello) (s : State) → c.dialled ≡ None → bytes_eq hello.digest g.digest ≡ true → take_hello g c hello s ≡ greeted hello.space c.number s
-hello-known g c hello s is same = hello-cases g c hello s None is ∙ ap (λ b. cond b (greeted hello.space c.number s) (close g g.classes.unmarshal c.number s)) same
+pub hello-known : (g : Setting) (c : Connection) (hello : Hello) (s : State) → c.dialled ≡ None → (bytes_eq hello.digest g.digest && nat_le hello.version g.version) ≡ true → take_hello g c hello s ≡ answer_hello g hello.version c.number (greeted hello.space c.number s)
+hello-known g c hello s is same = hello-cases g c hello s None is ∙ ap (λ b. cond b (answer_hello g hello.version c.number (greeted hello.space c.number s)) (close g g.classes.unmarshal c.number s)) same
 
-pub hello-strange : (g : Setting) (c : Connection) (hello : Hello) (s : State) → c.dialled ≡ None → bytes_eq hello.digest g.digest ≡ false → take_hello g c hello s ≡ close g g.classes.unmarshal c.number s
-hello-strange g c hello s is other = hello-cases g c hello s None is ∙ ap (λ b. cond b (greeted hello.space c.number s) (close g g.classes.unmarshal c.number s)) other
+pub hello-strange : (g : Setting) (c : Connection) (hello : Hello) (s : State) → c.dialled ≡ None → (bytes_eq hello.digest g.digest && nat_le hello.version g.version) ≡ false → take_hello g c hello s ≡ close g g.classes.unmarshal c.number s
+hello-strange g c hello s is other = hello-cases g c hello s None is ∙ ap (λ b. cond b (answer_hello g hello.version c.number (greeted hello.space c.number s)) (close g g.classes.unmarshal c.number s)) other
 
 pub hello-dialled : (g : Setting) (c : Connection) (hello : Hello) (s : State) (peer : Uuid) → c.dialled ≡ Some peer → (bytes_eq hello.digest g.digest && bytes_eq hello.space peer) ≡ true
-    → take_hello g c hello s ≡ flush_waiting peer c.number (greeted hello.space c.number s)
+    → take_hello g c hello s ≡ take_answer g c peer hello.space (answer_of c.version hello.version) s
 hello-dialled g c hello s peer is same =
-    hello-cases g c hello s (Some peer) is ∙ ap (λ b. cond b (flush_waiting peer c.number (greeted hello.space c.number s)) (close g g.classes.connect c.number s)) same
+    hello-cases g c hello s (Some peer) is ∙ ap (λ b. cond b (take_answer g c peer hello.space (answer_of c.version hello.version) s) (close g g.classes.connect c.number s)) same
 
 pub hello-other : (g : Setting) (c : Connection) (hello : Hello) (s : State) (peer : Uuid) → c.dialled ≡ Some peer → (bytes_eq hello.digest g.digest && bytes_eq hello.space peer) ≡ false
     → take_hello g c hello s ≡ close g g.classes.connect c.number s
 hello-other g c hello s peer is other =
-    hello-cases g c hello s (Some peer) is ∙ ap (λ b. cond b (flush_waiting peer c.number (greeted hello.space c.number s)) (close g g.classes.connect c.number s)) other
+    hello-cases g c hello s (Some peer) is ∙ ap (λ b. cond b (take_answer g c peer hello.space (answer_of c.version hello.version) s) (close g g.classes.connect c.number s)) other
+
+-- ---- lists of ids
+
+pub dirty-fits : (g : Setting) (c : Connection) (sequence period : ℕ) (ids : List ObjId) (s : State) → fit_frame c ids ≡ true → got_dirty g c sequence period ids s ≡ answer_dirty g c sequence period ids s
+unfolding got_dirty
+dirty-fits g c sequence period ids s fit = ap (λ b. cond b (answer_dirty g c sequence period ids s) (close g g.classes.unmarshal c.number s)) fit
+
+pub dirty-strange : (g : Setting) (c : Connection) (sequence period : ℕ) (ids : List ObjId) (s : State) → fit_frame c ids ≡ false → got_dirty g c sequence period ids s ≡ close g g.classes.unmarshal c.number s
+unfolding got_dirty
+dirty-strange g c sequence period ids s fit = ap (λ b. cond b (answer_dirty g c sequence period ids s) (close g g.classes.unmarshal c.number s)) fit
+
+pub clean-fits : (g : Setting) (c : Connection) (sequence : ℕ) (strong : Bool) (ids : List ObjId) (s : State) → fit_frame c ids ≡ true → got_clean g c sequence strong ids s ≡ answer_clean g c sequence strong ids s
+unfolding got_clean
+clean-fits g c sequence strong ids s fit = ap (λ b. cond b (answer_clean g c sequence strong ids s) (close g g.classes.unmarshal c.number s)) fit
+
+pub clean-strange : (g : Setting) (c : Connection) (sequence : ℕ) (strong : Bool) (ids : List ObjId) (s : State) → fit_frame c ids ≡ false → got_clean g c sequence strong ids s ≡ close g g.classes.unmarshal c.number s
+unfolding got_clean
+clean-strange g c sequence strong ids s fit = ap (λ b. cond b (answer_clean g c sequence strong ids s) (close g g.classes.unmarshal c.number s)) fit
 
 -- ---- results
 

@@ -307,6 +307,7 @@ committed g s id k op t ready =
 pub created-space : (g : Setting) (class : ClassId) (s : State) (x : SpaceState) (o : Owner) → IsSpace g s x → IsOwner g (after_op g (Create class) s) o → IsSpace g (after_op g (Create class) s) (record x { owner = o })
 created-space g class s x o is now = record {
   id = is.id;
+  version = is.version;
   digest = is.digest;
   numbers = create-numbered g class s is.numbers;
   owner = now;
@@ -320,6 +321,7 @@ with_written id slot value s = record s { store = Written id slot value ∷ s.st
 pub written-space : (g : Setting) (id : ObjId) (slot : ℕ) (value : Value) (s : State) (x : SpaceState) (o : Owner) → IsSpace g s x → IsOwner g (with_written id slot value s) o → IsSpace g (with_written id slot value s) (record x { owner = o })
 written-space g id slot value s x o is now = record {
   id = is.id;
+  version = is.version;
   digest = is.digest;
   numbers = is.numbers;
   owner = now;

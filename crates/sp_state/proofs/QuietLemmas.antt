@@ -2,7 +2,7 @@
 -- of the event alone, and early notes keep it, each of these rules keeps it.
 use mathlib.Core.Path.{ap, ◌∙◌, sym, subst}
 use Rattle.std.proofs.Common.{inl, inr, lit≤}
-use Rattle.std.specs.Prelude.{◌≡◌, ◌≤◌, ◌⊎◌, refl, ℕ, not, ◌||◌, ◌&&◌, nat_le, is_none, Bool, true, false, List, [], ◌∷◌, ◌++◌, Option, None, Some, filter, find, if◌then◌else◌}
+use Rattle.std.specs.Prelude.{◌≡◌, ◌≤◌, ◌⊎◌, refl, ℕ, not, ◌||◌, ◌&&◌, nat_le, ◌==◌, is_none, is_some, Bool, true, false, List, [], ◌∷◌, ◌++◌, Option, None, Some, filter, find, if◌then◌else◌}
 use Rattle.std.specs.List.{list_any}
 use Rattle.space_ids.specs.declared.ids.ClassId.{ClassId}
 use Rattle.dgc_client.specs.History as lease_events
@@ -254,10 +254,21 @@ fail_write_keeps F conn unsent e = end_connection_keeps F _ conn e
 
 -- ---- frames
 
+pub say_hello_keeps : {g : Setting} {P : State → Type 0} (F : IsQuiet g P) {s : State} (version conn : ℕ) → P s → P (Frames.say_hello g version conn s)
+say_hello_keeps {g} F {s = s} version conn e = F.frame (send Hellos conn (message.Hello version g.id g.digest) s) _ refl (send_keeps F Hellos conn _ hellos-early e)
+
+dial_keeps : {g : Setting} {P : State → Type 0} (F : IsQuiet g P) {s : State} (peer : Uuid) → P s → P (Requests.dial peer s)
+unfolding Requests.dial
+dial_keeps F {s = s} peer e = if_keeps F (is_some (State.connection_to s peer) || State.is_dialling s peer) e (say_keeps F _ (F.frame s _ refl e))
+
+pub redial_keeps : {g : Setting} {P : State → Type 0} (F : IsQuiet g P) {s : State} (peer : Uuid) (conn : ℕ) → P s → P (Endings.redial peer conn s)
+unfolding Endings.redial
+redial_keeps F {s = s} peer conn e = dial_keeps F peer (say_keeps F _ (each_keeps F _ _ (λ t p h. let_go_keeps F p t.parked (F.frame t _ refl h)) (F.frame s _ refl e)))
+
 pub first_frame_keeps : {g : Setting} {P : State → Type 0} (F : IsQuiet g P) {s : State} (c : Connection) (m : Message) → P s → P (Frames.first_frame g c m s)
 unfolding Frames.first_frame
-first_frame_keeps {g} {P} F {s = s} c (message.Hello version space digest) e = some_keeps F c.dialled _ (if_keeps F _ known (close_keeps F _ c.number e))
-    (λ peer is. if_keeps F _ (flush_keeps F peer c.number known) (close_keeps F _ c.number e))
+first_frame_keeps {g} {P} F {s = s} c (message.Hello version space digest) e = some_keeps F c.dialled _ (if_keeps F _ (if_keeps F (nat_le 2 g.version) (say_hello_keeps F _ c.number known) known) (close_keeps F _ c.number e))
+    (λ peer is. if_keeps F _ (if_keeps F (version == c.version) (flush_keeps F peer c.number known) (if_keeps F (nat_le 2 c.version && version == 1) (redial_keeps F peer c.number e) (close_keeps F _ c.number e))) (close_keeps F _ c.number e))
   where
     known : P (Frames.greeted space c.number s)
     known = F.frame s _ refl e
@@ -326,8 +337,8 @@ told_by_keeps {P = P} F {s = s} c dirty sequence event e = some_keeps F (find (F
 
 pub opened_keeps : {g : Setting} {P : State → Type 0} (F : IsQuiet g P) {s : State} (conn : ℕ) (dialled : Option Uuid) → P s → P (OwnEvents.on_opened g conn dialled s)
 unfolding OwnEvents.on_opened
-opened_keeps F {s = s} conn None e = send_keeps F _ conn _ hellos-early (F.frame s _ refl e)
-opened_keeps F {s = s} conn (Some peer) e = send_keeps F _ conn _ hellos-early (F.frame s _ refl e)
+opened_keeps {g} F {s = s} conn None e = if_keeps F (nat_le 2 g.version) (F.frame s _ refl e) (say_hello_keeps F 1 conn (F.frame s (OwnEvents.add_connection conn None s) refl e))
+opened_keeps {g} F {s = s} conn (Some peer) e = say_hello_keeps F _ conn (F.frame s (OwnEvents.dialled_no_more (Some peer) (OwnEvents.add_connection conn (Some peer) s)) refl e)
 
 pub refused_keeps : {g : Setting} {P : State → Type 0} (F : IsQuiet g P) {s : State} (peer : Uuid) → P s → P (OwnEvents.on_refused g peer s)
 unfolding OwnEvents.on_refused

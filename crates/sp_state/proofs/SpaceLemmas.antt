@@ -34,6 +34,7 @@ use Rattle.sp_state.specs.declared.space_state.SpaceState.{SpaceState}
 pub quiet : (g : Setting) (s t : State) (space : SpaceState) (l : Living) → owner_parts t ≡ owner_parts s → IsLiving g t l → IsSpace g s space → IsSpace g t (record space { living = l })
 quiet g s t space l same now is = record {
   id = is.id;
+  version = is.version;
   digest = is.digest;
   numbers = subst AreNumbered (sym same) is.numbers;
   owner = subst (λ (p : OwnerParts). KeepsParts g p space.owner) (sym same) is.owner;
@@ -52,6 +53,7 @@ living-still g p s l is = record {
   transport = record {
     leases = is.transport.leases;
     connections = is.transport.connections;
+    noted = is.transport.noted;
     asked = is.transport.asked;
     calls_made = is.transport.calls_made;
     groups_made = is.transport.groups_made;

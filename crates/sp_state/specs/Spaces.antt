@@ -11,9 +11,10 @@ use Rattle.sp_state.specs.declared.space_state.SpaceState.{SpaceState}
 abbrev pub AreNumbered : OwnerParts → Type 0
 AreNumbered p = RisesWithin 0 p.objects_made (map (λ (o : Object). o.id.0) (standing p.store))
 
--- The id and the digest are the setting's; what the space keeps for others, and what lives in it, are those of the state.
+-- The id, the version and the digest are the setting's; what the space keeps for others, and what lives in it, are those of the state.
 pub record IsSpace (g : Setting) (s : State) (space : SpaceState) : Type 0 where
   pub id : space.id ≡ g.id
+  pub version : space.version ≡ g.version
   pub digest : space.digest ≡ g.digest
   pub numbers : AreNumbered (owner_parts s)
   pub owner : IsOwner g s space.owner

@@ -48,7 +48,7 @@ impl SpaceState {
     {
         let is_first = connection.peer.is_none();
         if is_first {
-            return self.first_frame(classes, conn, connection.dialled, message);
+            return self.first_frame(classes, conn, connection, message);
         }
         let asks = is_asking(&message);
         let dialled = connection.dialled.is_some();
@@ -98,12 +98,18 @@ impl SpaceState {
                 sequence,
                 period,
                 objects,
-            } => self.receive_dirty(conn, connection.peer, sequence, period, objects.as_slice()),
+            } => {
+                let ids = objects.as_slice();
+                self.receive_dirty(classes, conn, connection, sequence, period, ids)
+            }
             Message::Clean {
                 sequence,
                 strong,
                 objects,
-            } => self.receive_clean(conn, connection.peer, sequence, strong, objects.as_slice()),
+            } => {
+                let ids = objects.as_slice();
+                self.receive_clean(classes, conn, connection, sequence, strong, ids)
+            }
             _ => unreachable!(),
         }
     }

@@ -18,12 +18,12 @@ impl SpaceState {
     ghost use Rattle.sp_state.specs.Spaces.{IsSpace};
 
     /// Opens a connection, to a peer that is being dialled or from one that dialled this space, and says
-    /// Hello.
+    /// Hello, unless the peer's is to come first.
     pub fn opened(&mut self, conn: u64, dialled: Option<Uuid>) -> Result<(), AllocError>
         ensures opened { OnOk result ((g : Setting) (s : State) → IsSpace g s self.old → s.notes ≡ [] → connection_at s conn ≡ None → was_asked s dialled ≡ true → IsSpace g (on_opened g conn dialled s) self.new) }
         ensures lent { OnOk result (KeepsLent self.old.living.tasks self.new.living.tasks) }
     {
-        self.living.open(conn, dialled, self.digest)
+        self.living.open(conn, dialled, self.version, self.digest)
     }
 
     /// Ends what waits for a peer that was dialled and refused, calls and lookups with ConnectException.

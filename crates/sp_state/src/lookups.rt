@@ -1,16 +1,18 @@
 //! Lookups that come, acknowledgements, and dirty and clean calls (Java RMI specification, 6.1 and 9.1).
 
-ghost use Rattle.std.specs.Prelude.{◌≡◌, [], OnOk};
+ghost use Rattle.std.specs.Prelude.{◌≡◌, [], OnOk, length, nat_le};
 ghost use Rattle.space_ids.specs.declared.value.Value.TheVariants as values;
 ghost use Rattle.sp_rules.specs.Classes.{Setting};
-ghost use Rattle.sp_rules.specs.Frames.{got_ack, got_clean, got_dirty, got_lookup};
+ghost use Rattle.sp_requests.specs.Tables.{seen};
+ghost use Rattle.sp_rules.specs.Frames.{answer_clean, answer_dirty, got_ack, got_clean, got_dirty, got_lookup};
+ghost use Rattle.sp_rules.specs.Requests.{most_ids};
 ghost use Rattle.sp_rules.specs.State.{Connection as Line, State};
 ghost use Rattle.sp_tasks.specs.Lent.{KeepsLent};
 
 use crate::SpaceState;
 use net_message::Message;
 use sp_outputs::Turn;
-use sp_requests::{CallClasses, RemoteException};
+use sp_requests::{CallClasses, Connection, RemoteException};
 use space_ids::{ClassId, ObjId, Ref, Uuid, Value};
 use std::alloc::AllocError;
 
@@ -81,8 +83,28 @@ impl SpaceState {
         self.close(classes, RemoteException::Unmarshal, conn)
     }
 
-    // Takes a dirty call of the client that the Hello named, and answers it by a lease.
-    pub(crate) fn receive_dirty(
+    // Takes a dirty call of the client that the Hello named, and answers it. One with more ids than a frame of the
+    // connection's version names closes it.
+    pub(crate) fn receive_dirty<C: CallClasses>(
+        &mut self,
+        classes: &C,
+        conn: u64,
+        connection: Connection,
+        sequence: u64,
+        period: u64,
+        ids: &[ObjId],
+    ) -> Result<(), AllocError>
+        ensures got { OnOk result ((g : Setting) (s : State) (c : Line) → IsSpace g s self.old → s.notes ≡ [] → C.tells classes.now g.classes → ComesOn conn s c → connection ≡ seen c → IsSpace g (got_dirty g c sequence period ids.now s) self.new) }
+        ensures lent { OnOk result (KeepsLent self.old.living.tasks self.new.living.tasks) }
+    {
+        if fits(&connection, ids) {
+            return self.answer_dirty(conn, connection.peer, sequence, period, ids);
+        }
+        self.close(classes, RemoteException::Unmarshal, conn)
+    }
+
+    // Answers a dirty call of the client that the Hello named by a lease.
+    fn answer_dirty(
         &mut self,
         conn: u64,
         peer: Option<Uuid>,
@@ -90,7 +112,7 @@ impl SpaceState {
         period: u64,
         ids: &[ObjId],
     ) -> Result<(), AllocError>
-        ensures got { OnOk result ((g : Setting) (s : State) (c : Line) → IsSpace g s self.old → ComesOn conn s c → c.peer ≡ peer → IsSpace g (got_dirty g c sequence period ids.now s) self.new) }
+        ensures got { OnOk result ((g : Setting) (s : State) (c : Line) → IsSpace g s self.old → ComesOn conn s c → c.peer ≡ peer → IsSpace g (answer_dirty g c sequence period ids.now s) self.new) }
         ensures lent { OnOk result (KeepsLent self.old.living.tasks self.new.living.tasks) }
     {
         let client = peer.unwrap_or(self.id);
@@ -105,8 +127,28 @@ impl SpaceState {
         )
     }
 
-    // Takes a clean call of the client that the Hello named, and answers it.
-    pub(crate) fn receive_clean(
+    // Takes a clean call of the client that the Hello named, and answers it. One with more ids than a frame of the
+    // connection's version names closes it.
+    pub(crate) fn receive_clean<C: CallClasses>(
+        &mut self,
+        classes: &C,
+        conn: u64,
+        connection: Connection,
+        sequence: u64,
+        strong: bool,
+        ids: &[ObjId],
+    ) -> Result<(), AllocError>
+        ensures got { OnOk result ((g : Setting) (s : State) (c : Line) → IsSpace g s self.old → s.notes ≡ [] → C.tells classes.now g.classes → ComesOn conn s c → connection ≡ seen c → IsSpace g (got_clean g c sequence strong ids.now s) self.new) }
+        ensures lent { OnOk result (KeepsLent self.old.living.tasks self.new.living.tasks) }
+    {
+        if fits(&connection, ids) {
+            return self.answer_clean(conn, connection.peer, sequence, strong, ids);
+        }
+        self.close(classes, RemoteException::Unmarshal, conn)
+    }
+
+    // Answers a clean call of the client that the Hello named.
+    fn answer_clean(
         &mut self,
         conn: u64,
         peer: Option<Uuid>,
@@ -114,7 +156,7 @@ impl SpaceState {
         strong: bool,
         ids: &[ObjId],
     ) -> Result<(), AllocError>
-        ensures got { OnOk result ((g : Setting) (s : State) (c : Line) → IsSpace g s self.old → ComesOn conn s c → c.peer ≡ peer → IsSpace g (got_clean g c sequence strong ids.now s) self.new) }
+        ensures got { OnOk result ((g : Setting) (s : State) (c : Line) → IsSpace g s self.old → ComesOn conn s c → c.peer ≡ peer → IsSpace g (answer_clean g c sequence strong ids.now s) self.new) }
         ensures lent { OnOk result (KeepsLent self.old.living.tasks self.new.living.tasks) }
     {
         let client = peer.unwrap_or(self.id);
@@ -129,4 +171,11 @@ fn reference(space: Uuid, id: ObjId, class: ClassId) -> Value
     ensures { result ≡ values.Ref (record { space = space; id = id; class = class }) }
 {
     Value::Ref(Ref { space, id, class })
+}
+
+// Whether a frame of the connection's version may name these.
+fn fits(connection: &Connection, ids: &[ObjId]) -> bool
+    ensures { result ≡ nat_le (length ids.now) (most_ids connection.now.version) }
+{
+    ids.len() <= connection.most_ids()
 }

@@ -13,14 +13,15 @@ use sp_owner::Owner;
 use space_ids::Uuid;
 use std::alloc::{AllocError, Global};
 
-/// The state of a space: what it keeps for others, and what lives in it; its id, and the digest of its class
-/// files. A contract names the states of the rules that the value may stand for. A call that fails may leave it
-/// anywhere between two of them: what has failed is to be let go, and an equal value kept. What the laws of
-/// histories exclude is looked at, and answered like memory that lacks.
+/// The state of a space: what it keeps for others, and what lives in it; its id, the version of the protocol that
+/// it speaks at most, and the digest of its class files. A contract names the states of the rules that the value
+/// may stand for. A call that fails may leave it anywhere between two of them: what has failed is to be let go, and
+/// an equal value kept. What the laws of histories exclude is looked at, and answered like memory that lacks.
 #[derive(Drop)]
 pub struct SpaceState {
     pub(crate) alloc: Global,
     pub(crate) id: Uuid,
+    pub(crate) version: u8,
     pub(crate) digest: Digest,
     pub(crate) owner: Owner,
     pub(crate) living: Living,
@@ -32,15 +33,21 @@ impl SpaceState {
     ghost use Rattle.sp_state.specs.Spaces.{IsAtRest, IsSpace};
     ghost use Rattle.sp_transport.specs.Settling.{MaySettle};
 
-    /// The space of this id, over class files of this digest, as it begins.
-    pub fn new(alloc: Global, id: Uuid, digest: Digest) -> Result<SpaceState, AllocError>
-        ensures { IfOk result (λ space. (g : Setting) → g.id ≡ id → g.digest ≡ digest → IsSpace g opening space) }
+    /// The space of this id, which speaks this version at most, over class files of this digest, as it begins.
+    pub fn new(
+        alloc: Global,
+        id: Uuid,
+        version: u8,
+        digest: Digest,
+    ) -> Result<SpaceState, AllocError>
+        ensures { IfOk result (λ space. (g : Setting) → g.id ≡ id → g.version ≡ version → g.digest ≡ digest → IsSpace g opening space) }
     {
         let owner = Owner::new(alloc, id)?;
         let living = Living::new(alloc, id)?;
         Ok(SpaceState {
             alloc,
             id,
+            version,
             digest,
             owner,
             living,
@@ -56,6 +63,7 @@ impl SpaceState {
         Ok(SpaceState {
             alloc: self.alloc,
             id: self.id,
+            version: self.version,
             digest: self.digest,
             owner: self.owner.copy()?,
             living: self.living.copy()?,

@@ -114,6 +114,7 @@ pub now-fewer : (s : State) (t : Transport) (is : Request → Bool) (peers : Pee
 now-fewer s t is peers asked a = record {
   leases = a.leases;
   connections = a.connections;
+  noted = a.noted;
   asked = asked;
   calls_made = a.calls_made;
   groups_made = a.groups_made;
@@ -161,6 +162,7 @@ pub now-parked : (s : State) (t : Transport) (conn number : ℕ) (peers : Peers)
 now-parked s t conn number peers asked a = record {
   leases = a.leases;
   connections = a.connections;
+  noted = a.noted;
   asked = asked;
   calls_made = a.calls_made;
   groups_made = a.groups_made;
@@ -192,6 +194,7 @@ now-acked s t conn number peer l r peers outputs found asked e a =
     (subst (λ (u : State). IsTransport u new) (send-open Acks conn (message.Ack number) gone l.stands) (record {
       leases = a.leases;
       connections = a.connections;
+      noted = a.noted;
       asked = subst (λ (cs : List Connection). AreAsked cs gone.requests peers) (sym (recorded-sent Acks conn (message.Ack number) s.notes s.connections))
           (subst (λ (k : ℕ). AreAsked (sent_on k (message.Ack number) (said s)) (filter (λ (x : Request). not (is_call_on k number x)) s.requests) peers) l.number asked);
       calls_made = a.calls_made;

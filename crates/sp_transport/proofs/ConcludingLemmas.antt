@@ -159,6 +159,7 @@ now-concluded s t outputs none a =
     subst (λ (u : State). IsTransport u (record t { outputs = outputs })) (sym (concluded-is s)) (record {
       leases = a.leases;
       connections = links;
+      noted = a.noted;
       asked = lines-alike (λ q. alike-lines (said s) cs q a.lines.alike) links.numbered_once links.dialled_once a.asked;
       calls_made = a.calls_made;
       groups_made = a.groups_made;

@@ -5,6 +5,7 @@ use Rattle.std.proofs.lemmas.Bool.{eqb-true}
 use Rattle.uuid.specs.declared.Uuid.{Uuid}
 use Rattle.sp_rules.proofs.AllLemmas.{found-is}
 use Rattle.sp_rules.specs.Lines.{dialled_to}
+use Rattle.sp_rules.specs.Requests.{most_ids, most_of}
 use Rattle.sp_rules.specs.State.{State, Connection, connection_at}
 use Rattle.sp_requests.specs.Tables.{seen}
 use Rattle.sp_requests.specs.declared.connection.Connection as kept
@@ -51,3 +52,12 @@ has-peer o c peer at its e = nothing peer (e ∙ (ap (option_and_then (λ (d : C
 -- which is this one
 pub peer-line : (s : State) (t : Transport) (conn : ℕ) (c : Connection) (peer : Uuid) → connection_at s conn ≡ Some c → Some peer ≡ option_and_then (λ (d : Connection). d.dialled) (connection_at s conn) → IsTransport s t → IsDialled s peer conn
 peer-line s t conn c peer at e a = dialled-line s t conn c peer at (sym (e ∙ ap (option_and_then (λ (d : Connection). d.dialled)) at)) a
+
+-- how many ids a frame names at most on a connection of which this is kept
+pub most-seen : (o : Option Connection) (x : kept.Connection) → Some x ≡ option_map seen o → most_ids x.version ≡ most_of o
+most-seen None x e = absurd (nothing x (sym e))
+most-seen (Some c) x e = ap (λ (y : kept.Connection). most_ids y.version) (only x (seen c) e)
+
+pub most-unseen : (o : Option Connection) → None ≡ option_map seen o → 1024 ≡ most_of o
+most-unseen None e = refl
+most-unseen (Some c) e = absurd (nothing (seen c) e)

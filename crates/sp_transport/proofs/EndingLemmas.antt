@@ -95,6 +95,7 @@ unfolding in_order
 now-closed s t conn c connections none at its links a = record {
   leases = a.leases;
   connections = links;
+  noted = a.noted;
   asked = subst (λ (l : List Note). AreAsked (recorded (without conn s.connections) l) s.requests t.peers) (sym none) (closed-asked conn c at its (asked-first s t none a));
   calls_made = a.calls_made;
   groups_made = a.groups_made;
@@ -128,6 +129,7 @@ now-ended s t conn peer c connections peers none at its links asked a =
     subst (λ (o : Option Uuid). IsTransport (remove_requests (is_of_connection conn o) (without_connection conn s)) (record t { connections = connections; peers = peers })) (sym its) (record {
       leases = a.leases;
       connections = links;
+      noted = a.noted;
       asked = subst (λ (l : List Note). AreAsked (recorded (without conn s.connections) l) left peers) (sym none)
           (subst (λ (n : ℕ). AreAsked (without n s.connections) (filter (λ (r : Request). not (is_of_connection n (Some peer) r)) s.requests) peers) number asked);
       calls_made = a.calls_made;
@@ -172,6 +174,7 @@ pub now-refused : (s : State) (t : Transport) (peer : Uuid) (connections : Conne
 now-refused s t peer connections peers none is links asked a = record {
   leases = a.leases;
   connections = links;
+  noted = a.noted;
   asked = subst (λ (l : List Note). AreAsked (recorded s.connections l) left peers) (sym none) asked;
   calls_made = a.calls_made;
   groups_made = a.groups_made;

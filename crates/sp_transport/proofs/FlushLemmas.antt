@@ -42,9 +42,9 @@ not-apart p q apart is isnt = pick (bytes_eq p q) refl (sym is ∙ isnt)
 -- The first parts of a group went out.
 pub record IsTelling (turn : Turn) (conn call : ℕ) (group : Group) (s : State) (out left : List Group) (t : Transport) : Type 0 where
   pub stands : IsTransport (each (requests.part_goes_out turn conn call) out s) t
-  pub whole : out ++ left ≡ groups.parts_of 1024 group
+  pub whole : out ++ left ≡ groups.parts_of (requests.most_on s conn) group
 
-pub telling-start : (turn : Turn) (conn call : ℕ) (group : Group) (s : State) (left : List Group) (t : Transport) → left ≡ groups.parts_of 1024 group → IsTransport s t → IsTelling turn conn call group s [] left t
+pub telling-start : (turn : Turn) (conn call : ℕ) (group : Group) (s : State) (left : List Group) (t : Transport) → left ≡ groups.parts_of (requests.most_on s conn) group → IsTransport s t → IsTelling turn conn call group s [] left t
 telling-start turn conn call group s left t whole a = record { stands = subst (λ (u : State). IsTransport u t) (sym (each-none (requests.part_goes_out turn conn call) s)) a; whole = whole }
 
 of-peer : (group : Group) (pieces : List (List ObjId)) → AllOf (λ (part : Group). part.peer ≡ group.peer) (map (groups.part_of group) pieces)
@@ -58,8 +58,8 @@ all-here P (y ∷ xs) x ys a = all-here P xs x ys a.1
 pub telling-step : (turn : Turn) (conn call : ℕ) (group : Group) (s : State) (out : List Group) (part : Group) (left rest : List Group) (t u : Transport) → left ≡ part ∷ rest → hello_came (connection_to s group.peer) ≡ Some conn → GroupsMayGo turn s → IsTelling turn conn call group s out left t
     → ((v : State) → IsTransport v t → hello_came (connection_to v part.peer) ≡ Some conn → GroupsMayGo turn v → IsTransport (requests.part_goes_out turn conn call v part) u) → IsTelling turn conn call group s (out ++ part ∷ []) rest u
 telling-step turn conn call group s out part left rest t u next hello may telling tells =
-    let whole : out ++ part ∷ rest ≡ groups.parts_of 1024 group = ap (λ (l : List Group). out ++ l) (sym next) ∙ telling.whole in
-    let its : part.peer ≡ group.peer = all-here (λ (p : Group). p.peer ≡ group.peer) out part rest (subst (AllOf (λ (p : Group). p.peer ≡ group.peer)) (sym whole) (of-peer group (groups.pieces 1024 group.ids))) in
+    let whole : out ++ part ∷ rest ≡ groups.parts_of (requests.most_on s conn) group = ap (λ (l : List Group). out ++ l) (sym next) ∙ telling.whole in
+    let its : part.peer ≡ group.peer = all-here (λ (p : Group). p.peer ≡ group.peer) out part rest (subst (AllOf (λ (p : Group). p.peer ≡ group.peer)) (sym whole) (of-peer group (groups.pieces (requests.most_on s conn) group.ids))) in
     let v : State = each (requests.part_goes_out turn conn call) out s in
     let step : IsStep turn s v = parts-step turn conn call out s in
     record {
@@ -68,9 +68,9 @@ telling-step turn conn call group s out part left rest t u next hello may tellin
       whole = append_assoc out (part ∷ []) rest ∙ whole;
     }
 
-pub telling-all : (turn : Turn) (conn call : ℕ) (group : Group) (s : State) (out left : List Group) (t : Transport) → left ≡ [] → IsTelling turn conn call group s out left t → IsTransport (each (requests.part_goes_out turn conn call) (groups.parts_of 1024 group) s) t
+pub telling-all : (turn : Turn) (conn call : ℕ) (group : Group) (s : State) (out left : List Group) (t : Transport) → left ≡ [] → IsTelling turn conn call group s out left t → IsTransport (each (requests.part_goes_out turn conn call) (groups.parts_of (requests.most_on s conn) group) s) t
 telling-all turn conn call group s out left t none telling =
-    let all : out ≡ groups.parts_of 1024 group = sym (append-nil out) ∙ ap (λ (l : List Group). out ++ l) (sym none) ∙ telling.whole in
+    let all : out ≡ groups.parts_of (requests.most_on s conn) group = sym (append-nil out) ∙ ap (λ (l : List Group). out ++ l) (sym none) ∙ telling.whole in
     subst (λ (l : List Group). IsTransport (each (requests.part_goes_out turn conn call) l s) t) all telling.stands
 
 -- ---- requests that waited

@@ -103,7 +103,7 @@ asked-step turn conn peer (Calls number task lent kind m) s =
 asked-step turn conn peer (LooksUp number task name) s =
     let r : Request = record { peer = peer; asked = LooksUp number task name; stage = Out conn 0 } in
     steps (add-step turn r s) (send-step turn conn (message.Lookup number name) (requests.add_request r s))
-asked-step turn conn peer (Tells call group) s = parts-step turn conn call (groups.parts_of 1024 group) s
+asked-step turn conn peer (Tells call group) s = parts-step turn conn call (groups.parts_of (requests.most_on s conn) group) s
 
 -- a request goes out
 pub go-step : (turn : Turn) (conn : ℕ) (s : State) (r : Request) → IsStep turn s (requests.go_out turn conn r s)
@@ -170,7 +170,7 @@ next-goes turn conn to peer (Calls number task lent kind m) s ns named next =
     next-called (requests.add_request (record { peer = to; asked = Calls number task lent kind m; stage = Out conn 0 }) s) turn conn m peer number ns named next
 next-goes turn conn to peer (LooksUp number task name) s ns named next =
     next-called (requests.add_request (record { peer = to; asked = LooksUp number task name; stage = Out conn 0 }) s) turn conn (message.Lookup number name) peer number ns refl next
-next-goes turn conn to peer (Tells call group) s ns named next = next-parts-out turn conn call (groups.parts_of 1024 group) s peer ns next
+next-goes turn conn to peer (Tells call group) s ns named next = next-parts-out turn conn call (groups.parts_of (requests.most_on s conn) group) s peer ns next
 
 -- The next request goes out: those after it may go out then.
 pub next-out : (turn : Turn) (conn : ℕ) (r : Request) (peer : Uuid) (s : State) (ns : List ℕ) → IsNamed r.asked → AreNextOut s peer (call_number r.asked ++ ns) → AreNextOut (requests.go_out turn conn r s) peer ns

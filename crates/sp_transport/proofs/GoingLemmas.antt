@@ -13,7 +13,7 @@ use Rattle.sp_rules.specs.Events as event
 use Rattle.sp_rules.specs.Events.{Sends}
 use Rattle.sp_rules.specs.Lines.{dialled_to}
 use Rattle.sp_rules.specs.Lists.{each}
-use Rattle.sp_rules.specs.Requests.{add_request, go_out, group_frame, hello_came, part_goes_out}
+use Rattle.sp_rules.specs.Requests.{add_request, go_out, group_frame, hello_came, most_on, part_goes_out}
 use Rattle.sp_rules.specs.State.{State, Connection, Request, Asked, Calls, LooksUp, Tells, Out, Waits, connection_to, send}
 use Rattle.sp_requests.specs.Asking.{IsNamed, asked_of, asks_by, kind_of, last_call, last_sequence, result_kind, sequence_in}
 use Rattle.sp_requests.specs.declared.asked.Asked as kept
@@ -112,7 +112,7 @@ lookup-goes s t turn conn peer asked number task name is next may out =
     subst (λ (x : kept.Asked). IsTransport (go_out turn conn (record { peer = peer; asked = asked_of x; stage = Waits }) s) t) (sym is)
     (out (LooksUp number task name) refl refl refl tt first notes)
 
-pub group-goes : (s : State) (t : Transport) (turn : event.Turn) (conn : ℕ) (peer : Uuid) (asked : kept.Asked) (call : ℕ) (group : Group) → asked ≡ kept_asked.Tell call group → MayGo turn (asked_of asked) s → (GroupsMayGo turn s → IsTransport (each (part_goes_out turn conn call) (groups.parts_of 1024 group) s) t)
+pub group-goes : (s : State) (t : Transport) (turn : event.Turn) (conn : ℕ) (peer : Uuid) (asked : kept.Asked) (call : ℕ) (group : Group) → asked ≡ kept_asked.Tell call group → MayGo turn (asked_of asked) s → (GroupsMayGo turn s → IsTransport (each (part_goes_out turn conn call) (groups.parts_of (most_on s conn) group) s) t)
     → IsTransport (go_out turn conn (record { peer = peer; asked = asked_of asked; stage = Waits }) s) t
 unfolding go_out
 group-goes s t turn conn peer asked call group is may out =

@@ -12,6 +12,8 @@ pub mod OpeningLemmas
 pub mod DialledLemmas
 pub mod AnsweringLemmas
 pub mod EndingLemmas
+pub mod RedialLemmas
+pub mod SpokenLemmas
 pub mod ConcludingLemmas
 pub mod GoesLemmas
 pub mod SettleLemmas

@@ -22,6 +22,7 @@ pub now-made : (s : State) (t : Transport) (peer : Uuid) (asked : Asked) (made :
 now-made s t peer asked made is number named a = record {
   leases = a.leases;
   connections = a.connections;
+  noted = a.noted;
   asked = a.asked;
   calls_made = is;
   groups_made = a.groups_made;
@@ -35,6 +36,7 @@ pub now-taken : (s : State) (t : Transport) → IsTransport s t → IsTransport 
 now-taken s t a = record {
   leases = a.leases;
   connections = a.connections;
+  noted = a.noted;
   asked = a.asked;
   calls_made = a.calls_made;
   groups_made = a.groups_made;
@@ -94,6 +96,7 @@ now-calls s t group call leases is after a =
     let b = with-leases s t (client.made group (s.groups_made + 1) s.leases) leases (told-numbers group (client.making group.kind (s.groups_made + 1)) s.leases) (subst (λ (n : ℕ). client.IsAfter (client.made group n s.leases) leases) is after) a in record {
       leases = b.leases;
       connections = a.connections;
+      noted = a.noted;
       asked = a.asked;
       calls_made = a.calls_made;
       groups_made = is;

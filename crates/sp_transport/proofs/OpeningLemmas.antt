@@ -99,6 +99,7 @@ now-accepted s t conn m connections outputs none free hello links e a =
     subst (λ (u : State). IsTransport u (record t { connections = connections; outputs = outputs })) (send-open Hellos conn m (add_connection conn None s) (number-last conn s.connections (opened conn None) free refl)) (record {
       leases = a.leases;
       connections = links;
+      noted = a.noted;
       asked = subst (λ (l : List Note). AreAsked (recorded cs l) s.requests t.peers) (sym (none-after s.notes (Sends Hellos conn m) none))
           (lines-same (λ q. accepted-lines conn m cs q accepts) (sent-numbered conn m cs links.numbered_once) (sent-dialled conn m cs links.dialled_once) (accepted-asked conn free (asked-first s t none a)));
       calls_made = a.calls_made;
@@ -112,6 +113,39 @@ now-accepted s t conn m connections outputs none free hello links e a =
           (all-weaken (WentAfterHello s.connections) (WentAfterHello cs) s.requests (λ r w is. ap (λ o. is_some (hello_came o)) (to-more s.connections (opened conn None) r.peer refl) ∙ w is) first.out));
     })
 
+-- one on which this space says Hello once the peer's has come
+pub now-accepted-late : (s : State) (t : Transport) (conn : ℕ) (connections : Connections) → s.notes ≡ [] → connection_at s conn ≡ None → AreConnections (s.connections ++ opened conn None ∷ []) s.dialling connections → IsTransport s t
+    → IsTransport (dialled_no_more None (add_connection conn None s)) (record t { connections = connections })
+unfolding in_order
+now-accepted-late s t conn connections none free links a = record {
+  leases = a.leases;
+  connections = links;
+  noted = a.noted;
+  asked = subst (λ (l : List Note). AreAsked (recorded cs l) s.requests t.peers) (sym none) (accepted-asked conn free (asked-first s t none a));
+  calls_made = a.calls_made;
+  groups_made = a.groups_made;
+  fresh = a.fresh;
+  notes = a.notes;
+  lines = subst (λ (l : List Note). AreLines (record (line_parts s) { connections = cs; notes = l })) (sym none) (record {
+    sent = λ q c e. first.sent q c (sym (same q) ∙ e);
+    waiting = all-weaken (WaitsForHello s.connections s.dialling) (WaitsForHello cs s.dialling) s.requests (λ r w is. let x = w is in (ap (λ o. is_some o || list_any (bytes_eq r.peer) s.dialling) (same r.peer) ∙ x.0, ap hello_came (same r.peer) ∙ x.1)) first.waiting;
+    out = all-weaken (WentAfterHello s.connections) (WentAfterHello cs) s.requests (λ r w is. ap (λ o. is_some (hello_came o)) (same r.peer) ∙ w is) first.out;
+    rising = first.rising;
+    fresh_is = first.fresh_is;
+    noted = tt;
+    alike = alike-self cs;
+  });
+}
+  where
+    cs : List Connection
+    cs = s.connections ++ opened conn None ∷ []
+
+    first : AreLines (record (line_parts s) { notes = [] })
+    first = lines-first s t none a
+
+    same : (q : Uuid) → dialled_to cs q ≡ dialled_to s.connections q
+    same q = to-more s.connections (opened conn None) q refl
+
 -- a peer that is being dialled
 pub now-opened : (s : State) (t : Transport) (conn : ℕ) (peer : Uuid) (m : Message) (connections : Connections) (peers : Peers) (outputs : Outputs) → s.notes ≡ [] → connection_at s conn ≡ None → is_dialling s peer ≡ true → IsHello m
     → AreConnections (s.connections ++ opened conn (Some peer) ∷ []) (filter (λ p. not (bytes_eq peer p)) s.dialling) connections → AreAsked (sent_on conn m (s.connections ++ opened conn (Some peer) ∷ [])) s.requests peers
@@ -121,6 +155,7 @@ now-opened s t conn peer m connections peers outputs none free is hello links as
     subst (λ (u : State). IsTransport u (record t { connections = connections; peers = peers; outputs = outputs })) (send-open Hellos conn m (dialled_no_more (Some peer) (add_connection conn (Some peer) s)) (number-last conn s.connections (opened conn (Some peer)) free refl)) (record {
       leases = a.leases;
       connections = links;
+      noted = a.noted;
       asked = subst (λ (l : List Note). AreAsked (recorded cs l) s.requests peers) (sym (none-after s.notes (Sends Hellos conn m) none)) asked;
       calls_made = a.calls_made;
       groups_made = a.groups_made;
@@ -177,6 +212,7 @@ unfolding in_order
 now-greeted s t conn space connections none is links a = record {
   leases = a.leases;
   connections = links;
+  noted = a.noted;
   asked = subst (λ (l : List Note). AreAsked (recorded cs l) s.requests t.peers) (sym none) (row-asked (λ (c : Connection). c.number == conn) (speaks space) (record { number = λ c. refl; dialled = λ c. refl }) (λ c. refl) (asked-first s t none a));
   calls_made = a.calls_made;
   groups_made = a.groups_made;
@@ -223,6 +259,7 @@ unfolding in_order
 now-welcome s t conn peer c connections peers none at its links asked a = record {
   leases = a.leases;
   connections = links;
+  noted = a.noted;
   asked = subst (λ (l : List Note). AreAsked (recorded cs l) left peers) (sym none) (row-asked (λ (d : Connection). d.number == conn) (speaks peer) (record { number = λ d. refl; dialled = λ d. refl }) (λ d. refl) asked);
   calls_made = a.calls_made;
   groups_made = a.groups_made;
@@ -309,6 +346,7 @@ unfolding in_order
 now-counted s t conn number connections none links a = record {
   leases = a.leases;
   connections = links;
+  noted = a.noted;
   asked = subst (λ (l : List Note). AreAsked (recorded cs l) s.requests t.peers) (sym none) (row-asked (λ (d : Connection). d.number == conn) (counts number) (record { number = λ d. refl; dialled = λ d. refl }) (λ d. refl) (asked-first s t none a));
   calls_made = a.calls_made;
   groups_made = a.groups_made;

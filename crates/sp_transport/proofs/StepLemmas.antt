@@ -48,6 +48,7 @@ pub with-leases : (s : State) (t : Transport) (h : List client.Told) (leases : C
 with-leases s t h leases same after a = record {
   leases = after;
   connections = a.connections;
+  noted = a.noted;
   asked = a.asked;
   calls_made = a.calls_made;
   groups_made = a.groups_made;
@@ -84,6 +85,7 @@ pub now-said : (s : State) (t : Transport) (o : Output) (outputs : Outputs) → 
 now-said s t o outputs is e a = record {
   leases = a.leases;
   connections = a.connections;
+  noted = a.noted;
   asked = subst (λ (l : List Connection). AreAsked l s.requests t.peers) (sym (recorded-said (output_of o) s.notes s.connections)) a.asked;
   calls_made = a.calls_made;
   groups_made = a.groups_made;
@@ -127,6 +129,7 @@ now-answered s t turn conn m outputs isnt is e a =
     let here = recorded s.connections s.notes in record {
       leases = a.leases;
       connections = a.connections;
+      noted = a.noted;
       asked = subst (λ (l : List Connection). AreAsked l s.requests t.peers) (sym (recorded-sent turn conn m s.notes s.connections))
           (lines-same (λ q. accepted-lines conn m here q (accepted-notes conn s.notes s.connections accepts)) (sent-numbered conn m here a.asked.numbered_once) (sent-dialled conn m here a.asked.dialled_once) a.asked);
       calls_made = a.calls_made;
@@ -155,6 +158,7 @@ pub now-waits : (s : State) (t : Transport) (peer : Uuid) (asked : Asked) (diall
 now-waits s t peer asked dialling peers connections none next wider known links waits a = record {
   leases = a.leases;
   connections = links;
+  noted = a.noted;
   asked = waits;
   calls_made = a.calls_made;
   groups_made = a.groups_made;
@@ -203,6 +207,7 @@ now-called s t turn conn peer asked n m peers outputs l isnt number its nil next
     subst (λ (u : State). IsTransport u (record t { peers = peers; outputs = outputs })) (send-open turn conn m (add_request r s) l.stands) (record {
       leases = a.leases;
       connections = a.connections;
+      noted = a.noted;
       asked = subst (λ (cs : List Connection). AreAsked cs (s.requests ++ r ∷ []) peers) (sym (recorded-sent turn conn m s.notes s.connections))
           (subst (λ (k : ℕ). AreAsked (sent_on k m (said s)) (s.requests ++ record { peer = peer; asked = asked; stage = Out k 0 } ∷ []) peers) l.number out);
       calls_made = a.calls_made;
@@ -253,6 +258,7 @@ now-told s t turn conn call part sequence leases peers outputs l isnt number may
     (subst (λ (u : State). IsTransport u new) (send-open turn conn m (add_request r told) l.stands) (record {
       leases = after;
       connections = a.connections;
+      noted = a.noted;
       asked = subst (λ (cs : List Connection). AreAsked cs (s.requests ++ r ∷ []) peers) (sym (recorded-sent turn conn m s.notes s.connections))
           (subst (λ (k : ℕ). AreAsked (sent_on k m (said s)) (s.requests ++ record { peer = part.peer; asked = Tells call part; stage = Out k sequence } ∷ []) peers) l.number out);
       calls_made = a.calls_made;

@@ -7,6 +7,7 @@ use Rattle.sp_rules.specs.Endings.{call_number_in}
 use Rattle.sp_rules.specs.Events.{Note}
 use Rattle.sp_rules.specs.Laws.{AllOf, RisesWithin}
 use Rattle.sp_rules.specs.Lines.{WaitsForHello, dialled_to}
+use Rattle.sp_rules.specs.OwnEvents.{is_among}
 use Rattle.sp_rules.specs.Requests.{hello_came, is_waiting}
 use Rattle.sp_rules.specs.State.{State, Connection, Request, Asked, Calls, LooksUp, Tells, Waits}
 use Rattle.sp_requests.specs.Tables.{AreConnections}
@@ -93,10 +94,11 @@ pub record AreLines (p : LineParts) : Type 0 where
 
 -- ---- the whole
 
--- The leases, connections and requests are those of the state, with what the event under way has sent so far; so are the numbers that were given, the call of the event, and what it answers.
+-- The leases, connections, noted peers and requests are those of the state, with what the event under way has sent so far; so are the numbers that were given, the call of the event, and what it answers.
 pub record IsTransport (s : State) (t : Transport) : Type 0 where
   pub leases : client.IsAfter s.leases t.leases
   pub connections : AreConnections s.connections s.dialling t.connections
+  pub noted : (peer : Uuid) → is_among t.noted peer ≡ is_among s.noted peer
   pub asked : AreAsked (said s) s.requests t.peers
   pub calls_made : t.calls_made ≡ s.calls_made
   pub groups_made : t.groups_made ≡ s.groups_made

@@ -1,14 +1,16 @@
 //! Connections that end, and peers that refuse.
 
-ghost use Rattle.std.specs.Prelude.{◌≡◌, ℕ, [], None, Some, IfOk, true, filter};
-ghost use Rattle.sp_rules.specs.Endings.{is_of_connection, unsent_calls, without_connection};
+ghost use Rattle.std.specs.Prelude.{◌≡◌, ℕ, [], None, Some, IfOk, OnOk, true, filter};
+ghost use Rattle.sp_rules.specs.Endings.{is_of_connection, note_peer, unsent_calls, without_connection};
+ghost use Rattle.sp_rules.specs.Events.{Close};
 ghost use Rattle.sp_rules.specs.OwnEvents.{dialled_no_more};
 ghost use Rattle.sp_rules.specs.ParkedFrames.{remove_requests};
-ghost use Rattle.sp_rules.specs.Requests.{waits_for};
-ghost use Rattle.sp_rules.specs.State.{Connection as Row, State, connection_at, is_dialling};
+ghost use Rattle.sp_rules.specs.Requests.{dial, waits_for};
+ghost use Rattle.sp_rules.specs.State.{Connection as Row, State, connection_at, is_dialling, say};
 ghost use Rattle.sp_requests.specs.Ends.{IsEnding};
 
 use crate::Transport;
+use sp_outputs::Output;
 use sp_requests::{Ended, Ending};
 use space_ids::Uuid;
 use std::alloc::AllocError;
@@ -40,6 +42,33 @@ impl Transport {
     {
         let _closed = self.connections.close(conn);
         self.peers.end_reserved(peer, ending)
+    }
+
+    /// Lets a connection go that was dialled to a peer, before any Hello came on it, and dials the peer again. All
+    /// that is asked of the peer waits on.
+    pub fn redial(&mut self, conn: u64, peer: &Uuid) -> Result<(), AllocError>
+        ensures { OnOk result ((s : State) (c : Row) → IsTransport s self.old → s.notes ≡ []
+            → connection_at s conn ≡ Some c → c.dialled ≡ Some peer.now → c.peer ≡ None
+            → IsTransport (dial peer.now (say (Close conn) (without_connection conn s))) self.new) }
+    {
+        self.reserve_connections(0, 1)?;
+        self.reserve_notes(2)?;
+        let _gone = self.connections.close(conn);
+        self.peers.restart(peer);
+        self.outputs.say_reserved(Output::Close(conn));
+        if !self.connections.dial_reserved(peer) {
+            return Ok(());
+        }
+        self.outputs.say_reserved(Output::Dial(*peer));
+        Ok(())
+    }
+
+    /// Notes that a peer was found to speak version 1 alone.
+    pub fn note(&mut self, peer: &Uuid) -> Result<(), AllocError>
+        ensures noted { OnOk result ((s : State) → IsTransport s self.old
+            → IsTransport (note_peer peer.now s) self.new) }
+    {
+        self.noted.insert(peer)
     }
 
     /// Lets a connection go that a peer dialled. Nothing was asked on it. It takes no memory.

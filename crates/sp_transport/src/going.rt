@@ -1,11 +1,11 @@
 //! How requests wait for the peer's Hello, and go out.
 
-ghost use Rattle.std.specs.Prelude.{◌≡◌, ℕ, List, [], ◌∷◌, OnOk, false};
+ghost use Rattle.std.specs.Prelude.{◌≡◌, ◌<◌, ℕ, List, [], ◌∷◌, OnOk, false};
 ghost use Rattle.dgc_client.specs.Groups.{parts_of};
 ghost use Rattle.net_message.specs.declared.message.Message.{Message as Frame};
 ghost use Rattle.sp_rules.specs.Endings.{call_number_in};
 ghost use Rattle.sp_rules.specs.Lists.{each};
-ghost use Rattle.sp_rules.specs.Requests.{add_request, dial, go_out, group_frame, hello_came, part_goes_out};
+ghost use Rattle.sp_rules.specs.Requests.{add_request, dial, go_out, group_frame, hello_came, most_on, part_goes_out};
 ghost use Rattle.sp_rules.specs.State.{Asked as Question, Out, State, Waits, connection_to, send};
 ghost use Rattle.sp_requests.specs.Asking.{IsNamed, asked_of, asks_by};
 ghost use Rattle.sp_outputs.specs.Notes.{turn_of};
@@ -18,8 +18,8 @@ use sp_requests::{Asked, Asker};
 use space_ids::{ObjId, Row, Uuid};
 use std::alloc::AllocError;
 
-// How many ids a frame of dirty or clean calls names at most.
-const MOST_IDS: usize = 1_024;
+// How many ids a frame of dirty or clean calls names at most where no connection is.
+const FEWEST_IDS: usize = 1_024;
 
 impl Transport {
     ghost use Rattle.sp_transport.specs.Asking.{AreNextOut, AreNextWaiting};
@@ -94,7 +94,8 @@ impl Transport {
         Ok(())
     }
 
-    // Sends the dirty or clean calls of a group, in parts of at most 1,024 ids.
+    // Sends the dirty or clean calls of a group, in parts of as many ids as a frame of the connection's version
+    // names at most.
     fn tell(
         &mut self,
         turn: Turn,
@@ -104,17 +105,31 @@ impl Transport {
         group: &Group,
     ) -> Result<(), AllocError>
         requires { is_acks (turn_of turn) ≡ false }
-        ensures { OnOk result ((s : State) → IsTransport s self.old → hello_came (connection_to s peer.now) ≡ Some conn → GroupsMayGo (turn_of turn) s → IsTransport (each (part_goes_out (turn_of turn) conn call) (parts_of 1024 group.now) s) self.new) }
+        ensures { OnOk result ((s : State) → IsTransport s self.old
+            → hello_came (connection_to s peer.now) ≡ Some conn → GroupsMayGo (turn_of turn) s
+            → IsTransport (each (part_goes_out (turn_of turn) conn call)
+            (parts_of (most_on s conn) group.now) s) self.new) }
     {
         // In every run dirty and clean calls are asked of the owner of their objects.
         if group.peer != *peer {
             return Err(AllocError);
         }
-        let parts = group.parts(self.alloc, MOST_IDS)?;
+        let parts = group.parts(self.alloc, self.most_on(conn))?;
         for part in parts {
             self.tell_part(turn, conn, call, part)?;
         }
         Ok(())
+    }
+
+    // How many ids a frame of dirty or clean calls names at most on a connection.
+    fn most_on(&self, conn: u64) -> usize
+        ensures most { (s : State) → IsTransport s self.now → result ≡ most_on s conn }
+        ensures some { 0 < result }
+    {
+        match self.connections.get(conn) {
+            Some(connection) => connection.most_ids(),
+            None => FEWEST_IDS,
+        }
     }
 
     // Sends one part of a group, under the next sequence number.

@@ -4,7 +4,7 @@ ghost use Rattle.std.specs.Prelude.{◌≡◌, ◌<◌, ◌+◌, ◌==◌, ℕ, 
 ghost use Rattle.std.specs.List.{flat_map};
 ghost use Rattle.net_message.specs.declared.message.Message.{Message as Frame};
 ghost use Rattle.sp_rules.specs.Events.{Hellos};
-ghost use Rattle.sp_rules.specs.Frames.{counted, greeted};
+ghost use Rattle.sp_rules.specs.Frames.{counted, greeted, of_version};
 ghost use Rattle.sp_rules.specs.Laws.{AllOf};
 ghost use Rattle.sp_rules.specs.OwnEvents.{add_connection, dialled_no_more};
 ghost use Rattle.sp_rules.specs.Requests.{hello_came, waits_for};
@@ -37,6 +37,19 @@ impl Transport {
         self.outputs.send_reserved(Turn::Hellos, conn, hello);
     }
 
+    /// Opens a connection that a peer dialled, on which this space says Hello once the peer's has come. It takes
+    /// no memory: the caller owes [room](Transport::reserve_connections) for the connection.
+    pub fn accept_late_reserved(&mut self, conn: u64)
+        requires { 0 < connection_room self.old }
+        ensures opened { (s : State) → IsTransport s self.old → s.notes ≡ []
+            → connection_at s conn ≡ None
+            → IsTransport (dialled_no_more None (add_connection conn None s)) self.new }
+        ensures rooms { Spends 0 1 0 0 self.old self.new }
+        ensures rows { KeepsRows self.old self.new }
+    {
+        self.connections.accept_reserved(conn)
+    }
+
     /// Opens a connection to a peer that is being dialled, and then is no more, and says Hello. It takes no
     /// memory: the caller owes [room](Transport::reserve_connections) for the connection and the peer, a
     /// [row](Transport::reserve_requests) for the peer, and room for an [output](Transport::reserve_notes).
@@ -52,6 +65,16 @@ impl Transport {
         self.connections.open_reserved(conn, peer);
         self.peers.hello(peer);
         self.outputs.send_reserved(Turn::Hellos, conn, hello);
+    }
+
+    /// Notes the version of the Hello that this space said on a connection.
+    pub fn speak(&mut self, conn: u64, version: u8)
+        ensures spoken { (s : State) → IsTransport s self.old
+            → IsTransport (of_version version conn s) self.new }
+        ensures rooms { Spends 0 0 0 0 self.old self.new }
+        ensures rows { KeepsRows self.old self.new }
+    {
+        self.connections.speak(conn, version);
     }
 
     /// Notes who spoke on a connection that a peer dialled, whose Hello has come.

@@ -4,13 +4,14 @@ ghost use Rattle.std.specs.Prelude.{◌≡◌, ℕ, [], None, Some, IfOk, filter
 ghost use Rattle.dgc_client.specs.Lease.{is_renewed_at, lapses_at};
 ghost use Rattle.dgc_client.specs.Table as client;
 ghost use Rattle.sp_rules.specs.Holders.{lease_now};
+ghost use Rattle.sp_rules.specs.OwnEvents.{is_noted};
 ghost use Rattle.sp_rules.specs.Requests.{hello_came};
 ghost use Rattle.sp_rules.specs.State.{State, connection_at, connection_to, opening};
 ghost use Rattle.sp_requests.specs.Tables.{link_of, seen};
 
 use dgc_client::{ClientLease, Clients};
 use sp_outputs::Outputs;
-use sp_requests::{Asked, Connection, Connections, Link, Peers};
+use sp_requests::{Asked, Connection, Connections, Link, NotedPeers, Peers};
 use space_ids::{ForeignId, Uuid};
 use std::alloc::{AllocError, Global};
 
@@ -33,6 +34,7 @@ pub struct Transport {
     pub(crate) alloc: Global,
     pub(crate) leases: Clients,
     pub(crate) connections: Connections,
+    pub(crate) noted: NotedPeers,
     pub(crate) peers: Peers,
     // How many calls and lookups were made, and how many groups of dirty or clean calls.
     pub(crate) calls_made: u64,
@@ -52,6 +54,7 @@ impl Transport {
             alloc,
             leases: Clients::new(alloc),
             connections: Connections::new(alloc),
+            noted: NotedPeers::new(alloc),
             peers: Peers::new(alloc),
             calls_made: 0,
             groups_made: 0,
@@ -69,6 +72,7 @@ impl Transport {
             alloc: self.alloc,
             leases: self.leases.copy()?,
             connections: self.connections.copy()?,
+            noted: self.noted.copy()?,
             peers: self.peers.copy()?,
             calls_made: self.calls_made,
             groups_made: self.groups_made,
@@ -90,6 +94,13 @@ impl Transport {
         ensures { (s : State) → IsTransport s self.now → result ≡ link_of peer.now s.connections s.dialling }
     {
         self.connections.link(peer)
+    }
+
+    /// Whether a peer was found to speak version 1 alone.
+    pub fn is_noted(&self, peer: &Uuid) -> bool
+        ensures { (s : State) → IsTransport s self.now → result ≡ is_noted s peer.now }
+    {
+        self.noted.contains(peer)
     }
 
     /// What is kept of a foreign reference.

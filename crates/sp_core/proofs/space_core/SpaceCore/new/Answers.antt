@@ -6,10 +6,10 @@ use Rattle.sp_core.proofs.RestLemmas.{opening-rest}
 use Rattle.sp_core.proofs.space_core.SpaceCore.new.Goals as goal
 
 pub returns : goal.returns
-returns c = λ g id digest fuel. record {
+returns c = λ g id digest fuel version. record {
   id = sym id;
   fuel = sym fuel;
-  state = subst (λ (x : SpaceState). IsSpace g opening x) (sym c.in_ok-state.ensures) (c.in_ok-first.ensures g id digest);
+  state = subst (λ (x : SpaceState). IsSpace g opening x) (sym c.in_ok-state.ensures) (c.in_ok-first.ensures g id version digest);
   spare = tt;
   rest = opening-rest;
 }

@@ -1,4 +1,4 @@
-use Rattle.std.proofs.Common.{◌≡◌, ℕ, Bool, ap, ◌∙◌, filter}
+use Rattle.std.proofs.Common.{ℕ, ◌∙◌, filter}
 use Rattle.std.specs.Prelude.{◌==◌}
 use Rattle.std.specs.Map.{keys_of}
 use Rattle.std.proofs.lemmas.Cmp.{nat_eq_equiv}

@@ -13,6 +13,7 @@ returns-clause-bound c = on_ok_weaker c.deny.result (λ told. λ g s is.
     let names = registry.bind s.owner.names c.args.name.now (own_object g s c.args.value.now) in
     record {
       id = is.id;
+      version = is.version;
       digest = is.digest;
       numbers = named-numbers names s is.numbers;
       owner = c.in_ok-denied.ensures.bound g s is.owner;

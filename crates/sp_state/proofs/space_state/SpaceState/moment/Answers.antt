@@ -20,6 +20,7 @@ returns-clause-passed c = on_ok_weaker c.pass_moment.result (λ passed. λ g s i
     let after : s.moment ≤ c.args.moment = omega (arith, last, c.if-moment-last.false) in
     record {
       id = is.id;
+      version = is.version;
       digest = is.digest;
       numbers = subst AreNumbered (sym (moment-parts g c.args.moment s after)) is.numbers;
       owner = subst (λ (p : OwnerParts). KeepsParts g p c.moment.new.self) (sym (moment-parts g c.args.moment s after)) (c.moment.ensures g s is.owner);

@@ -12,7 +12,7 @@ returns-then-is_first-clause-received w c = on_ok_weaker c.first_frame.result (�
     let m = c.args.message in
     let peer : is_none row.peer ≡ true = ap (λ (k : Connection). is_none k.peer) (sym seen) ∙ none-so c.args.connection.peer c.is_none-is_first.result c.is_none-is_first.ensures ∙ c.if-is_first.true in
     space-is g (first_frame g row m s) (receive g row m s) c.first_frame.new.self (received-first g row m s peer)
-    (now g s row is silent tells on (ap (λ (k : Connection). k.dialled) (sym seen)) (first-peer row.peer peer))) c.first_frame.ensures.got
+    (now g s row is silent tells on seen (first-peer row.peer peer))) c.first_frame.ensures.got
 
 pub returns-then-is_wrong_way-clause-received : goal.returns-then-is_wrong_way-clause-received
 returns-then-is_wrong_way-clause-received w c = on_ok_weaker c.close.result (λ now. λ g s row is silent tells on seen.

@@ -27,10 +27,10 @@ pub returns-in-Dirty-clause-got : goal.returns-in-Dirty-clause-got
 unfolding got
 returns-in-Dirty-clause-got w c = on_ok_weaker c.receive_dirty.result (λ now. λ g s row is silent tells on seen there.
     subst (λ (m : Message). IsSpace g (got g row m s) c.receive_dirty.new.self) (sym c.in-Dirty.is)
-    (subst (λ (ids : List ObjId). IsSpace g (got_dirty g row c.in-Dirty.sequence c.in-Dirty.period ids s) c.receive_dirty.new.self) c.as_slice-in-Dirty.ensures (now g s row is on (sym (ap (λ (k : Connection). k.peer) seen))))) c.receive_dirty.ensures.got
+    (subst (λ (ids : List ObjId). IsSpace g (got_dirty g row c.in-Dirty.sequence c.in-Dirty.period ids s) c.receive_dirty.new.self) c.as_slice-ids.ensures (now g s row is silent tells on seen))) c.receive_dirty.ensures.got
 
 pub returns-in-Clean-clause-got : goal.returns-in-Clean-clause-got
 unfolding got
 returns-in-Clean-clause-got w c = on_ok_weaker c.receive_clean.result (λ now. λ g s row is silent tells on seen there.
     subst (λ (m : Message). IsSpace g (got g row m s) c.receive_clean.new.self) (sym c.in-Clean.is)
-    (subst (λ (ids : List ObjId). IsSpace g (got_clean g row c.in-Clean.sequence c.in-Clean.strong ids s) c.receive_clean.new.self) c.as_slice-in-Clean.ensures (now g s row is on (sym (ap (λ (k : Connection). k.peer) seen))))) c.receive_clean.ensures.got
+    (subst (λ (ids : List ObjId). IsSpace g (got_clean g row c.in-Clean.sequence c.in-Clean.strong ids s) c.receive_clean.new.self) c.as_slice-ids-in-Clean.ensures (now g s row is silent tells on seen))) c.receive_clean.ensures.got

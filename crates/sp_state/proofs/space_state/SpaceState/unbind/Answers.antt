@@ -12,6 +12,7 @@ returns-clause-unbound c = on_ok_weaker c.deny.result (λ told. λ g s is.
     let names = registry.unbind s.owner.names c.args.name.now in
     record {
       id = is.id;
+      version = is.version;
       digest = is.digest;
       numbers = named-numbers names s is.numbers;
       owner = c.unbind-denied.ensures.unbound g s is.owner;

@@ -24,7 +24,7 @@ returns-clause-withdrawn c = on_ok_weaker c.say.result (λ said. λ g s is.
     let x : SpaceState = record c.args.self.now { owner = c.withdraw.new.self } in
     let living = subst (λ (t : State). IsLiving g t c.args.self.now.living) (without-still ids s) (living-still g (owner_parts gone) s c.args.self.now.living is.living) in
     let owner = subst (λ (xs : List ObjId). IsOwner g (without xs s) c.withdraw.new.self) c.as_slice-gone.ensures.value (c.in_ok-withdraw.ensures g s is.owner) in
-    let now : IsSpace g gone x = record { id = is.id; digest = is.digest; numbers = without-numbered ids s is.numbers; owner = owner; living = living } in
+    let now : IsSpace g gone x = record { id = is.id; version = is.version; digest = is.digest; numbers = without-numbered ids s is.numbers; owner = owner; living = living } in
     let refs : c.as_slice-dropped.result.now ≡ flat_map (fields_at g s) ids = c.as_slice-dropped.ensures.value ∙ c.in_ok-references.ensures g s is ∙ ap (flat_map (fields_at g s)) c.as_slice-gone.ensures.value in
     let left : State = drop g c.as_slice-dropped.result.now gone in
     let told : State = say (Withdrawn c.new.result) left in

@@ -9,6 +9,7 @@ pub returns-clause-released : goal.returns-clause-released
 returns-clause-released c = λ s a line none. record {
   leases = a.leases;
   connections = a.connections;
+  noted = a.noted;
   asked = c.release.ensures.released (said s) s.requests a.asked (none-noted s.notes s.connections c.args.peer.now line) none;
   calls_made = a.calls_made;
   groups_made = a.groups_made;

@@ -1,4 +1,4 @@
-use Rattle.std.proofs.Common.{◌≡◌, ◌∷◌, [], rules, ap, sym, ◌∙◌}
+use Rattle.std.proofs.Common.{◌≡◌, ℕ, ◌∷◌, [], rules, ap, sym, ◌∙◌}
 use Rattle.std.proofs.lemmas.List.{nil_from_length}
 use Rattle.uuid.specs.declared.Uuid.{Uuid}
 use Rattle.dgc_client.specs.Groups.{parts_of}
@@ -10,8 +10,8 @@ use Rattle.sp_transport.proofs.transport.Transport.tell.Goals as goal
 
 pub loop-part-init : goal.loop-part-init
 loop-part-init c = λ s stands hello may.
-    let whole : c.into_iter-part-iterator.result.rest.items ≡ parts_of 1024 c.args.group.now = search rules in
-    telling-start (turn_of c.args.turn) c.args.conn c.args.call c.args.group.now s c.into_iter-part-iterator.result.rest.items c.args.self.now whole stands
+    let whole : c.into_iter-part-iterator.result.rest.items ≡ parts_of c.most_on.result c.args.group.now = search rules in
+    telling-start (turn_of c.args.turn) c.args.conn c.args.call c.args.group.now s c.into_iter-part-iterator.result.rest.items c.args.self.now (whole ∙ ap (λ (n : ℕ). parts_of n c.args.group.now) (c.most_on.ensures.most s stands)) stands
 
 pub loop-part-preserved : goal.loop-part-preserved
 loop-part-preserved c = λ s stands hello may.
