@@ -50,8 +50,11 @@ pub enum Between {
 /// What a line of a script says. Spaces and variables stand by their names.
 #[derive(Debug, Drop)]
 pub enum Command<'a> {
-    /// There is a space.
-    Space(&'a str),
+    /// There is a space, which speaks this version of the protocol at most.
+    Space {
+        name: &'a str,
+        version: u8,
+    },
     /// A root starts in a space: a static method with arguments and fuel.
     Root {
         space: &'a str,

@@ -4,7 +4,7 @@
 //! | A line | What it says |
 //! |---|---|
 //! | an empty one | nothing |
-//! | `space S` | there is a space of this name |
+//! | `space S`, `space S 1` | there is a space of this name, which speaks version 2 of the protocol at most, or 1 |
 //! | `root S VAR FUEL CLASS METHOD ARG ..` | a root starts, and VAR names what it returns; FUEL is a number, or `-` for the most |
 //! | `ack S VAR` | the result of VAR is let go |
 //! | `bind S NAME VAR`, `rebind S NAME VAR`, `unbind S NAME` | a name is bound in the registry of a space |

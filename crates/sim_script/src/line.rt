@@ -100,7 +100,10 @@ fn named_of<'a>(verb: &str, space: &'a str, rest: &[&'a str]) -> Result<Command<
 // What a space does by itself.
 fn own_of<'a>(verb: &str, space: &'a str, rest: &[&'a str]) -> Result<Command<'a>, LineFault> {
     match (verb, rest) {
-        ("space", []) => Ok(Command::Space(space)),
+        ("space", rest) => Ok(Command::Space {
+            name: space,
+            version: version_of(rest)?,
+        }),
         ("sweep", []) => Ok(Command::Sweep(space)),
         ("step", []) => Ok(Command::Step(space)),
         ("show", []) => Ok(Command::Show(space)),
@@ -108,6 +111,15 @@ fn own_of<'a>(verb: &str, space: &'a str, rest: &[&'a str]) -> Result<Command<'a
             space,
             moment: number_of(moment)?,
         }),
+        _ => Err(LineFault::Bad),
+    }
+}
+
+// The version that a space speaks at most: 2 if none is said.
+fn version_of(words: &[&str]) -> Result<u8, LineFault> {
+    match words {
+        [] | ["2"] => Ok(2),
+        ["1"] => Ok(1),
         _ => Err(LineFault::Bad),
     }
 }

@@ -65,9 +65,9 @@ impl<'p> ProgramSpaces<'p> {
 
 impl<'p> Origin<ProgramSpace<'p>> for ProgramSpaces<'p> {
     // It keeps within the limits that are there unless others are asked for.
-    fn space(&self, id: Uuid) -> Result<ProgramSpace<'p>, AllocError>
+    fn space(&self, id: Uuid, version: u8) -> Result<ProgramSpace<'p>, AllocError>
         ensures { IfOk result (λ home. (g : Setting) → g.classes ≡ classes_of self.now.links
-            → g.id ≡ id → g.digest ≡ self.now.digest → AreLimits g played_limits
+            → g.id ≡ id → g.digest ≡ self.now.digest → AreLimits g played_limits → g.version ≡ version
             → IsSpace g opening home.space) }
     {
         let space = Space::new(
@@ -77,6 +77,7 @@ impl<'p> Origin<ProgramSpace<'p>> for ProgramSpaces<'p> {
             self.digest,
             id,
             Limits::default(),
+            version,
         )?;
         Ok(ProgramSpace {
             alloc: self.alloc,

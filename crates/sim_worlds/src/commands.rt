@@ -13,7 +13,7 @@ impl<S: ScriptSpace + Drop> ScriptRun<S> {
     /// that is refused. Any other event that does not fit changes nothing.
     pub fn play(&mut self, command: &Command<'_>) -> Result<(), PlayFault> {
         match command {
-            Command::Space(_) => Err(PlayFault::Bad),
+            Command::Space { .. } => Err(PlayFault::Bad),
             Command::Root {
                 space,
                 variable,

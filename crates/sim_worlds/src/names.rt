@@ -6,11 +6,18 @@ use sim_happenings::ScriptRecord;
 use space_ids::Uuid;
 use std::alloc::{AllocError, Global};
 
+// The id of a space that a line names, and the version that it speaks at most.
+#[derive(Clone, Copy, PartialEq, Eq)]
+struct NamedSpace {
+    id: Uuid,
+    version: u8,
+}
+
 // The names, in the order of the lines that say them: the number of a space is the index of its name.
 #[derive(Drop)]
 pub(crate) struct Names {
     alloc: Global,
-    rows: IndexMap<String, Uuid>,
+    rows: IndexMap<String, NamedSpace>,
 }
 
 impl Names {
@@ -21,13 +28,16 @@ impl Names {
         }
     }
 
-    // Adds a space, and returns its id. `PlayFault::Bad` if there is a space of that name.
-    pub fn add(&mut self, name: &str) -> Result<Uuid, PlayFault> {
+    // Adds a space, which speaks this version at most, and returns its id. `PlayFault::Bad` if there is a space of that
+    // name.
+    pub fn add(&mut self, name: &str, version: u8) -> Result<Uuid, PlayFault> {
         if self.rows.get(name).is_some() {
             return Err(PlayFault::Bad);
         }
         let id = Uuid::from_u64_pair(0, self.rows.len() as u64 + 1);
-        self.rows.insert(String::from_str(self.alloc, name)?, id)?;
+        let space = NamedSpace { id, version };
+        self.rows
+            .insert(String::from_str(self.alloc, name)?, space)?;
         Ok(id)
     }
 
@@ -42,7 +52,15 @@ impl Names {
     // The id of a space.
     pub fn id(&self, number: usize) -> Result<Uuid, PlayFault> {
         match self.rows.get_index(number) {
-            Some((_, id)) => Ok(*id),
+            Some((_, space)) => Ok(space.id),
+            None => Err(PlayFault::Bad),
+        }
+    }
+
+    // The version that a space speaks at most.
+    pub fn version(&self, number: usize) -> Result<u8, PlayFault> {
+        match self.rows.get_index(number) {
+            Some((_, space)) => Ok(space.version),
             None => Err(PlayFault::Bad),
         }
     }
@@ -51,7 +69,7 @@ impl Names {
     pub fn of(&self, id: &Uuid) -> &str {
         let (_, number) = id.as_u64_pair();
         match self.rows.get_index((number as usize).saturating_sub(1)) {
-            Some((name, own)) if own == id => name.as_str(),
+            Some((name, own)) if own.id == *id => name.as_str(),
             _ => "",
         }
     }

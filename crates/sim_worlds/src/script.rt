@@ -94,8 +94,8 @@ fn read_names(alloc: Global, lines: &[&[u8]], names: &mut Names) -> Result<usize
 // Notes the space that a line names, if it does. Returns whether the line is empty or names one.
 fn read_name(alloc: Global, line: &[u8], names: &mut Names) -> Result<bool, PlayFault> {
     match read(alloc, line) {
-        Ok(Some(Command::Space(name))) => {
-            let _ = names.add(name)?;
+        Ok(Some(Command::Space { name, version })) => {
+            let _ = names.add(name, version)?;
             Ok(true)
         }
         Ok(None) => Ok(true),
@@ -124,10 +124,10 @@ fn make_spaces<S: ScriptSpace + Drop, O: Origin<S>>(
 ) -> Result<Vec<S>, ScriptFault> {
     let mut spaces = Vec::new(alloc);
     for number in 0..names.len() {
-        let Ok(id) = names.id(number) else {
+        let (Ok(id), Ok(version)) = (names.id(number), names.version(number)) else {
             return Err(ScriptFault::Memory);
         };
-        let space = origin.space(id)?;
+        let space = origin.space(id, version)?;
         if spaces.push(space).is_err() {
             return Err(ScriptFault::Memory);
         }

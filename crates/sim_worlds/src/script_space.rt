@@ -48,6 +48,7 @@ pub trait ScriptSpace: WorldSpace + Named {
 
 /// Makes the spaces of a script.
 pub trait Origin<S> {
-    /// Returns a space of this id, to which nothing has happened.
-    fn space(&self, id: Uuid) -> Result<S, AllocError>;
+    /// Returns a space of this id, to which nothing has happened, and which speaks this version of the protocol at
+    /// most.
+    fn space(&self, id: Uuid, version: u8) -> Result<S, AllocError>;
 }

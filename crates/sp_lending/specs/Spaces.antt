@@ -51,6 +51,6 @@ pub record AreOf (space : Parts) (task : TaskParts) : Type 0 where
   pub of : IsTask setting task
 
 -- the setting of a space of this program
-abbrev pub setting_of : Links → Uuid → List ℕ → Limits → Setting
-setting_of links id digest limits =
-    record { classes = classes_of links; id = id; digest = digest; limits = record { heap = limits.heap_words; stack = limits.stack_words; references = limits.references; fuel = limits.fuel } }
+abbrev pub setting_of : Links → Uuid → List ℕ → Limits → ℕ → Setting
+setting_of links id digest limits version =
+    record { classes = classes_of links; id = id; digest = digest; version = version; limits = record { heap = limits.heap_words; stack = limits.stack_words; references = limits.references; fuel = limits.fuel } }

@@ -27,7 +27,7 @@ pub(crate) struct Parts<'p> {
 }
 
 impl<'p> Parts<'p> {
-    /// The parts of a new space.
+    /// The parts of a new space, which speaks this version of the protocol at most.
     pub(crate) fn new(
         alloc: Global,
         program: &'p Program,
@@ -35,10 +35,13 @@ impl<'p> Parts<'p> {
         digest: Digest,
         id: Uuid,
         limits: Limits,
+        version: u8,
     ) -> Result<Parts<'p>, AllocError>
         requires classes { classes.now ≡ program.now }
         requires rules { AreRemoteRules program.now.classes }
-        ensures { IfOk result (λ parts. (g : Setting) → g.classes ≡ classes_of program.now → g.id ≡ id → g.digest ≡ digest → AreLimits g limits → IsSpace g opening parts) }
+        ensures { IfOk result (λ parts. (g : Setting) → g.classes ≡ classes_of program.now
+            → g.id ≡ id → g.digest ≡ digest → AreLimits g limits → g.version ≡ version
+            → IsSpace g opening parts) }
     {
         // Each set has java/lang/OutOfMemoryError, and is linked and sound.
         let _thrown = program.out_of_memory();
@@ -51,7 +54,7 @@ impl<'p> Parts<'p> {
                 program,
             },
             classes,
-            core: SpaceCore::new(alloc, id, digest, limits.fuel)?,
+            core: SpaceCore::new(alloc, id, digest, limits.fuel, version)?,
             rows: Rows::new(alloc),
         })
     }

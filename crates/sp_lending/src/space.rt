@@ -49,9 +49,9 @@ impl<'p, N: Setup> Model for LendingSpace<'p, N> {
 }
 
 impl<'p, N: Setup> LendingSpace<'p, N> {
-    /// The space of this id, whose tasks run methods of this program within these limits. Nothing has happened to
-    /// it. The remote classes and interfaces of the program keep the rules on them, as those of each set of class
-    /// files do that breaks none.
+    /// The space of this id, whose tasks run methods of this program within these limits, and which speaks this
+    /// version of the protocol at most. Nothing has happened to it. The remote classes and interfaces of the
+    /// program keep the rules on them, as those of each set of class files do that breaks none.
     pub fn new(
         alloc: Global,
         program: &'p Program,
@@ -59,6 +59,7 @@ impl<'p, N: Setup> LendingSpace<'p, N> {
         digest: Digest,
         id: Uuid,
         limits: Limits,
+        version: u8,
     ) -> Result<LendingSpace<'p, N>, AllocError>
         requires classes { classes.now ≡ program.now }
         requires rules { AreRemoteRules program.now.classes }
@@ -66,10 +67,13 @@ impl<'p, N: Setup> LendingSpace<'p, N> {
         requires id { N.setting.id ≡ id }
         requires digest { N.setting.digest ≡ digest }
         requires limits { AreLimits N.setting limits }
-        ensures { IfOk result (λ space. (g : Setting) → g.classes ≡ classes_of program.now → g.id ≡ id → g.digest ≡ digest → AreLimits g limits → IsSpace g opening space) }
+        requires version { N.setting.version ≡ version }
+        ensures { IfOk result (λ space. (g : Setting) → g.classes ≡ classes_of program.now
+            → g.id ≡ id → g.digest ≡ digest → AreLimits g limits → g.version ≡ version
+            → IsSpace g opening space) }
     {
         Ok(LendingSpace {
-            parts: Parts::new(alloc, program, classes, digest, id, limits)?,
+            parts: Parts::new(alloc, program, classes, digest, id, limits, version)?,
             name: PhantomData,
         })
     }

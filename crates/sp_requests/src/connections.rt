@@ -159,7 +159,7 @@ impl Connections {
         ensures spoken { (rows : List Row) (dialling : List Peer)
             → AreConnections rows dialling self.old
             → AreConnections (at_first (λ (c : Row). c.number == conn)
-                (λ (c : Row). record c { version = version }) rows) dialling self.new }
+            (λ (c : Row). record c { version = version }) rows) dialling self.new }
         ensures room { room self.new ≡ room self.old }
         ensures peer_room { peer_room self.new ≡ peer_room self.old }
     {

@@ -57,7 +57,7 @@ impl NotedPeers {
     /// Notes a peer, which stays noted for good.
     pub fn insert(&mut self, peer: &Uuid) -> Result<(), AllocError>
         ensures { OnOk result ((other : Peer) → is_among self.new other
-                ≡ (is_among self.old other || is_among (peer.now ∷ []) other)) }
+            ≡ (is_among self.old other || is_among (peer.now ∷ []) other)) }
     {
         self.peers.insert(*peer)?;
         Ok(())

@@ -180,7 +180,7 @@ impl Peers {
             → dialled_to connections peer.now ≡ Some c
             → AllOf (λ (r : Request). is_waiting r.stage ≡ true) (of_peer peer.now requests)
             → AreAsked (filter (λ (d : Connection). not (d.number == c.number)) connections)
-                requests self.new }
+            requests self.new }
         ensures room { (w c g : ℕ) → HasRoom peer.now w c g self.old
             → HasRoom peer.now w c g self.new }
         ensures others { (other : Peer) → bytes_eq peer.now other ≡ false

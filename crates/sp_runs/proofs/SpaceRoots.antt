@@ -52,6 +52,7 @@ one-setting program method arguments limits o r = λ j. record {
   classes = r.classes j;
   id = r.id j;
   digest = r.digest j;
+  version = r.version j;
   limits = record { heap = r.within.heap j; stack = r.within.stack j; references = r.within.references j; fuel = r.within.fuel j };
 }
 

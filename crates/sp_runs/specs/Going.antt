@@ -105,11 +105,12 @@ answer_of (Some end) = Ended 1 (told end) ∷ []
 
 -- ---- the setting
 
--- a space of a program's classes, with this id and these limits; no peer asks for its digest
+-- a space of a program's classes, with this id and these limits; no peer asks for its digest or its version
 abbrev pub setting_of : Links → Uuid → Limits → Setting
 setting_of program id limits = record {
   classes = classes_of program;
   id = id;
   digest = replicate 32 0;
+  version = 2;
   limits = record { heap = limits.heap_words; stack = limits.stack_words; references = limits.references; fuel = limits.fuel };
 }

@@ -62,8 +62,9 @@ pub record RunsInSpace (program : Links) (method : MethodId) (arguments : List V
   pub setting : Setting
   pub classes : setting.classes ≡ classes_of program
   pub id : setting.id ≡ zero_bytes
-  -- no peer compares it with its own
+  -- no peer compares these with its own
   pub digest : setting.digest ≡ replicate 32 0
+  pub version : setting.version ≡ 2
   pub within : AreLimits setting limits
   pub end : Outcome
   pub ends : EndsAs setting (Root method.0 arguments limits.fuel) end

@@ -168,8 +168,9 @@ fn over_classes<R: Host + RandomSource, I: BufRead, O: Write + Send + Drop, E: W
         fuel: most_fuel(&request.aim),
         ..Limits::default()
     };
+    let version = version_of(&request.aim);
     over_setting::<Brand, R, I, O, E>(
-        rt, request, program, &classes, digest, id, limits, methods, input, out, err,
+        rt, request, program, &classes, digest, id, limits, version, methods, input, out, err,
     )
 }
 
@@ -182,6 +183,7 @@ fn over_setting<'p, N: Setup + Send, R: Host, I: BufRead, O: Write + Send + Drop
     digest: Digest,
     id: Uuid,
     limits: Limits,
+    version: u8,
     methods: &[String],
     input: &mut I,
     mut out: O,
@@ -193,8 +195,9 @@ fn over_setting<'p, N: Setup + Send, R: Host, I: BufRead, O: Write + Send + Drop
     requires id { N.setting.id ≡ id }
     requires digest { N.setting.digest ≡ digest }
     requires limits { AreLimits N.setting limits }
+    requires version { N.setting.version ≡ version }
 {
-    match ServedSpace::<'p, N>::new(rt.alloc(), program, classes, digest, id, limits) {
+    match ServedSpace::<'p, N>::new(rt.alloc(), program, classes, digest, id, limits, version) {
         Ok(space) => run_space(rt, &request.aim, methods, space, input, out, err),
         Err(_) => no_memory(&mut out, err),
     }
@@ -205,6 +208,14 @@ fn most_fuel(aim: &Aim<'_>) -> u64 {
     match aim {
         Aim::Serve(request) => request.fuel,
         Aim::Call(request) => request.fuel,
+    }
+}
+
+// The version of the protocol that the space speaks at most.
+fn version_of(aim: &Aim<'_>) -> u8 {
+    match aim {
+        Aim::Serve(request) => request.version,
+        Aim::Call(_) => 2,
     }
 }
 

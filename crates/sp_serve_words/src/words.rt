@@ -37,6 +37,8 @@ pub struct ServeRequest<'a> {
     pub workers: usize,
     /// The most fuel of a root.
     pub fuel: u64,
+    /// The version of the protocol that the space speaks at most.
+    pub version: u8,
 }
 
 /// What is to be called, and by which method.
@@ -131,6 +133,12 @@ fn serve_words<'a>(alloc: Global) -> Result<Command<'a>, AllocError> {
             "fuel",
             "N",
             "The most instructions of a root and of what it calls (1000000 if it is not said)",
+        ))?
+        .arg(option(
+            alloc,
+            "version",
+            "N",
+            "The version of the protocol that it speaks at most, 1 or 2 (2 if it is not said)",
         ))
 }
 
@@ -222,6 +230,9 @@ fn serve_request<'a>(alloc: Global, found: &ArgMatches<'a>) -> Result<Invocation
     let Some(fuel) = fuel_of(found.get_str("fuel")) else {
         return refuse(alloc, NO_FUEL, "");
     };
+    let Some(version) = version_of(found.get_str("version")) else {
+        return refuse(alloc, "the version is 1 or 2", "");
+    };
     let peers = match peers_of(alloc, &own, found.get_strs("peer").unwrap_or(&[]))? {
         Ok(peers) => peers,
         Err(Mistake { why, word }) => return refuse(alloc, why, word),
@@ -239,6 +250,7 @@ fn serve_request<'a>(alloc: Global, found: &ArgMatches<'a>) -> Result<Invocation
             bound,
             workers,
             fuel,
+            version,
         }),
     }))
 }
@@ -318,6 +330,15 @@ fn workers_of(word: Option<&str>) -> Option<usize> {
             Ok(count) if 1 <= count && count <= 16 => Some(count),
             _ => None,
         },
+    }
+}
+
+// The version that a word says, or 2 if none is said.
+fn version_of(word: Option<&str>) -> Option<u8> {
+    match word {
+        None | Some("2") => Some(2),
+        Some("1") => Some(1),
+        Some(_) => None,
     }
 }
 

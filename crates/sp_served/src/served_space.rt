@@ -26,9 +26,9 @@ pub struct ServedSpace<'p, N: Setup> {
 }
 
 impl<'p, N: Setup> ServedSpace<'p, N> {
-    /// The space of this id, over class files of this digest, to which nothing has happened, and whose tasks keep
-    /// within these limits. The class set is that of the program, whose remote classes and interfaces keep the rules
-    /// on them. `AllocError` if memory runs out.
+    /// The space of this id, over class files of this digest, to which nothing has happened, whose tasks keep within
+    /// these limits, and which speaks this version of the protocol at most. The class set is that of the program,
+    /// whose remote classes and interfaces keep the rules on them. `AllocError` if memory runs out.
     pub fn new(
         alloc: Global,
         program: &'p Program,
@@ -36,6 +36,7 @@ impl<'p, N: Setup> ServedSpace<'p, N> {
         digest: Digest,
         id: Uuid,
         limits: Limits,
+        version: u8,
     ) -> Result<ServedSpace<'p, N>, AllocError>
         requires classes { classes.now ≡ program.now }
         requires rules { AreRemoteRules program.now.classes }
@@ -43,10 +44,11 @@ impl<'p, N: Setup> ServedSpace<'p, N> {
         requires id { N.setting.id ≡ id }
         requires digest { N.setting.digest ≡ digest }
         requires limits { AreLimits N.setting limits }
+        requires version { N.setting.version ≡ version }
     {
         Ok(ServedSpace {
             alloc,
-            space: LendingSpace::new(alloc, program, classes, digest, id, limits)?,
+            space: LendingSpace::new(alloc, program, classes, digest, id, limits, version)?,
         })
     }
 }

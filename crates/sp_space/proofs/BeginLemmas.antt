@@ -79,9 +79,9 @@ new-space g space is core none = record {
 }
 
 -- a setting of which a new space is
-abbrev pub setting_of : Links → Uuid → List ℕ → Limits → Setting
-setting_of links id digest limits =
-    record { classes = classes_of links; id = id; digest = digest; limits = record { heap = limits.heap_words; stack = limits.stack_words; references = limits.references; fuel = limits.fuel } }
+abbrev pub setting_of : Links → Uuid → List ℕ → Limits → ℕ → Setting
+setting_of links id digest limits version =
+    record { classes = classes_of links; id = id; digest = digest; version = version; limits = record { heap = limits.heap_words; stack = limits.stack_words; references = limits.references; fuel = limits.fuel } }
 
 -- ---- roots
 

@@ -29,7 +29,7 @@ pub(crate) struct Parts<'p> {
 }
 
 impl<'p> Parts<'p> {
-    /// The parts of a new space.
+    /// The parts of a new space, which speaks this version of the protocol at most.
     pub(crate) fn new(
         alloc: Global,
         program: &'p Program,
@@ -37,10 +37,13 @@ impl<'p> Parts<'p> {
         digest: Digest,
         id: Uuid,
         limits: Limits,
+        version: u8,
     ) -> Result<Parts<'p>, AllocError>
         requires classes { classes.now ≡ program.now }
         requires rules { AreRemoteRules program.now.classes }
-        ensures spaces { IfOk result (λ parts. (g : Setting) → g.classes ≡ classes_of program.now → g.id ≡ id → g.digest ≡ digest → AreLimits g limits → IsSpace g opening parts) }
+        ensures spaces { IfOk result (λ parts. (g : Setting) → g.classes ≡ classes_of program.now
+            → g.id ≡ id → g.digest ≡ digest → AreLimits g limits → g.version ≡ version
+            → IsSpace g opening parts) }
         ensures rests { IfOk result IsResting }
     {
         // Each set has java/lang/OutOfMemoryError, and is linked and sound.
@@ -52,7 +55,7 @@ impl<'p> Parts<'p> {
             limits,
             program,
             classes,
-            core: SpaceCore::new(alloc, id, digest, limits.fuel)?,
+            core: SpaceCore::new(alloc, id, digest, limits.fuel, version)?,
             machines: Machines::new(alloc),
         })
     }

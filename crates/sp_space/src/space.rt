@@ -46,9 +46,9 @@ impl<'p> Model for Space<'p> {
 }
 
 impl<'p> Space<'p> {
-    /// The space of this id, whose tasks run methods of this program within these limits. Nothing has happened to
-    /// it. The remote classes and interfaces of the program keep the rules on them, as those of each set of class
-    /// files do that breaks none.
+    /// The space of this id, whose tasks run methods of this program within these limits, and which speaks this
+    /// version of the protocol at most. Nothing has happened to it. The remote classes and interfaces of the
+    /// program keep the rules on them, as those of each set of class files do that breaks none.
     pub fn new(
         alloc: Global,
         program: &'p Program,
@@ -56,13 +56,16 @@ impl<'p> Space<'p> {
         digest: Digest,
         id: Uuid,
         limits: Limits,
+        version: u8,
     ) -> Result<Space<'p>, AllocError>
         requires classes { classes.now ≡ program.now }
         requires rules { AreRemoteRules program.now.classes }
-        ensures { IfOk result (λ space. (g : Setting) → g.classes ≡ classes_of program.now → g.id ≡ id → g.digest ≡ digest → AreLimits g limits → IsSpace g opening space) }
+        ensures { IfOk result (λ space. (g : Setting) → g.classes ≡ classes_of program.now
+            → g.id ≡ id → g.digest ≡ digest → AreLimits g limits → g.version ≡ version
+            → IsSpace g opening space) }
     {
         Ok(Space {
-            parts: Parts::new(alloc, program, classes, digest, id, limits)?,
+            parts: Parts::new(alloc, program, classes, digest, id, limits, version)?,
         })
     }
 

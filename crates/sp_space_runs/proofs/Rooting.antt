@@ -169,8 +169,8 @@ module _ (program : Links) (method : MethodId) (arguments : List Value) (limits 
   -- ---- where it stands
 
   pub new-stands : (space : Parts) (own : Uuid) → own ≡ zero_bytes
-      → ((g : Setting) → g.classes ≡ classes_of program → g.id ≡ own → g.digest ≡ its-setting.digest → spaces.AreLimits g limits → IsSpace g opening space) → IsSpace its-setting opening space
-  new-stands space own nil stands = stands its-setting refl (sym nil) refl (record { heap = refl; stack = refl; references = refl; fuel = refl })
+      → ((g : Setting) → g.classes ≡ classes_of program → g.id ≡ own → g.digest ≡ its-setting.digest → spaces.AreLimits g limits → g.version ≡ 2 → IsSpace g opening space) → IsSpace its-setting opening space
+  new-stands space own nil stands = stands its-setting refl (sym nil) refl (record { heap = refl; stack = refl; references = refl; fuel = refl }) refl
 
   module _ (files : List ClassBytes) (is : IsProgram files program) (space : Parts) (accepted : refusal its-setting [] opening (Root method.0 arguments limits.fuel) ≡ None) where
     rooted : Rooted program method arguments limits
@@ -199,6 +199,7 @@ module _ (program : Links) (method : MethodId) (arguments : List Value) (limits 
       classes = refl;
       id = refl;
       digest = refl;
+      version = refl;
       within = its-limits program zero_bytes limits;
       end = end;
       ends = ended.ends;

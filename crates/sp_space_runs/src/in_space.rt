@@ -69,8 +69,8 @@ fn run_in_set<'p>(
         → RunsInSpace program.now method arguments.now limits outcome
         → OnlyGives outcome IsOutOfMemory result }
 {
-    // No peer compares the digest with its own.
-    match Space::new(alloc, program, classes, [0; 32], Uuid::nil(), limits) {
+    // No peer compares the digest or the version with its own.
+    match Space::new(alloc, program, classes, [0; 32], Uuid::nil(), limits, 2) {
         Ok(space) => run_new(program, space, method, arguments, limits),
         Err(_) => Err(Refusal::Memory),
     }
