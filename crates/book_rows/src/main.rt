@@ -156,9 +156,9 @@ fn play_over<'p, M: Setup + Send, R: Host, W: Write>(
 ) -> io::Result<()>
     requires classes { classes.now ≡ program.now }
     requires rules { AreRemoteRules program.now.classes }
-    requires setting { M.setting ≡ setting_of program.now id digest limits }
+    requires setting { M.setting ≡ setting_of program.now id digest limits 1 }
 {
-    let space = LendingSpace::<'p, M>::new(rt.alloc(), program, classes, digest, id, limits)?;
+    let space = LendingSpace::<'p, M>::new(rt.alloc(), program, classes, digest, id, limits, 1)?;
     play_in::<M, LendingSpace<'p, M>, R, W>(rt, space, play, out)
 }
 

@@ -17,7 +17,7 @@ pub enum Hand {
 /// A row of the input.
 #[derive(Drop)]
 pub enum Row {
-    Core(Uuid, u64),
+    Core(Uuid, u64, u8),
     Event(Event),
     /// A root, and how often it comes.
     Root(Root, usize),
@@ -47,7 +47,8 @@ pub fn row_of(alloc: Global, kind: &str, parts: &[&str]) -> Result<Row, RowFault
 
 fn core_of(parts: &[&str]) -> Result<Row, RowFault> {
     match parts {
-        [id, fuel] => Ok(Row::Core(space(id)?, number(fuel)?)),
+        [id, fuel] => Ok(Row::Core(space(id)?, number(fuel)?, 1)),
+        [id, fuel, "2"] => Ok(Row::Core(space(id)?, number(fuel)?, 2)),
         _ => Err(RowFault::Bad),
     }
 }

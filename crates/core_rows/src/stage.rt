@@ -23,7 +23,7 @@ impl CoreStage {
     /// Returns a core to which nothing has happened, and no task in hand.
     pub fn new(alloc: Global) -> Result<CoreStage, AllocError> {
         let classes = OneClass::new(alloc)?;
-        let core = SpaceCore::new(alloc, Uuid::from_u64_pair(0, 1), [0; 32], 1_000)?;
+        let core = SpaceCore::new(alloc, Uuid::from_u64_pair(0, 1), [0; 32], 1_000, 1)?;
         Ok(CoreStage {
             alloc,
             classes,
@@ -32,10 +32,10 @@ impl CoreStage {
         })
     }
 
-    fn begin(&mut self, id: Uuid, fuel: u64) -> Result<(), RowFault> {
+    fn begin(&mut self, id: Uuid, fuel: u64, version: u8) -> Result<(), RowFault> {
         replace(
             &mut self.core,
-            SpaceCore::new(self.alloc, id, [0; 32], fuel)?,
+            SpaceCore::new(self.alloc, id, [0; 32], fuel, version)?,
         );
         Ok(())
     }
@@ -131,7 +131,7 @@ impl CoreStage {
 impl Stage for CoreStage {
     fn play(&mut self, said: &mut Vec<u8>, kind: &str, text: &str) -> Result<(), RowFault> {
         match row_of(self.alloc, kind, &words_of(self.alloc, text)?)? {
-            Row::Core(id, fuel) => self.begin(id, fuel),
+            Row::Core(id, fuel, version) => self.begin(id, fuel, version),
             Row::Event(event) => self.happen(said, &event),
             Row::Root(root, times) => self.start(said, &root, times),
             Row::Lend(task) => self.lend(said, task),

@@ -399,7 +399,7 @@ fn play_program(alloc: Global, program: &Program, tally: &mut Tally) -> Result<(
     let origin = ProgramSpaces::new(alloc, program, &classes, [7; 32]);
     let mut spaces = Vec::new(alloc);
     for space in [OWNER, CLIENT] {
-        spaces.push(origin.space(id(space))?)?;
+        spaces.push(origin.space(id(space), 1)?)?;
     }
     play_spaces(alloc, spaces, tally)
 }

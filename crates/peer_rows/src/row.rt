@@ -26,7 +26,7 @@ pub enum Look {
 /// A row of the input.
 #[derive(Drop)]
 pub enum Row {
-    Core(Uuid, u64),
+    Core(Uuid, u64, u8),
     /// A connection is open: a peer made it, or one that was dialled took it.
     Open(u64, Option<Uuid>),
     /// Bytes of a connection, how they are read, and what comes after them.
@@ -60,7 +60,8 @@ pub fn row_of(alloc: Global, kind: &str, parts: &[&str]) -> Result<Row, RowFault
 
 fn core_of(parts: &[&str]) -> Result<Row, RowFault> {
     match parts {
-        [id, fuel] => Ok(Row::Core(space(id)?, number(fuel)?)),
+        [id, fuel] => Ok(Row::Core(space(id)?, number(fuel)?, 1)),
+        [id, fuel, "2"] => Ok(Row::Core(space(id)?, number(fuel)?, 2)),
         _ => Err(RowFault::Bad),
     }
 }

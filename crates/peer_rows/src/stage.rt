@@ -27,7 +27,7 @@ impl PeerStage {
     /// Returns a core to which nothing has happened.
     pub fn new(alloc: Global) -> Result<PeerStage, AllocError> {
         let classes = RowClasses::new(alloc)?;
-        let core = SpaceCore::new(alloc, Uuid::from_u64_pair(0, 1), [0; 32], 1_000)?;
+        let core = SpaceCore::new(alloc, Uuid::from_u64_pair(0, 1), [0; 32], 1_000, 1)?;
         Ok(PeerStage {
             alloc,
             classes,
@@ -37,10 +37,10 @@ impl PeerStage {
         })
     }
 
-    fn begin(&mut self, id: Uuid, fuel: u64) -> Result<(), RowFault> {
+    fn begin(&mut self, id: Uuid, fuel: u64, version: u8) -> Result<(), RowFault> {
         replace(
             &mut self.core,
-            SpaceCore::new(self.alloc, id, [0; 32], fuel)?,
+            SpaceCore::new(self.alloc, id, [0; 32], fuel, version)?,
         );
         self.lines.clear();
         replace(&mut self.tasks, Tasks::new(self.alloc));
@@ -110,7 +110,7 @@ impl PeerStage {
 impl Stage for PeerStage {
     fn play(&mut self, said: &mut Vec<u8>, kind: &str, text: &str) -> Result<(), RowFault> {
         match row_of(self.alloc, kind, &words_of(self.alloc, text)?)? {
-            Row::Core(id, fuel) => self.begin(id, fuel),
+            Row::Core(id, fuel, version) => self.begin(id, fuel, version),
             Row::Open(conn, dialled) => self.open(said, conn, dialled),
             Row::Bytes(conn, device, bytes, after) => self.receive(
                 said, conn, device, &bytes, after,

@@ -24,7 +24,7 @@ fn refused(fault: CoreFault) -> RowFault {
 }
 
 pub fn space<S, O: Origin<S>>(origin: &O, id: Uuid) -> Result<S, RowFault> {
-    Ok(origin.space(id)?)
+    Ok(origin.space(id, 1)?)
 }
 
 pub fn event<S: ScriptSpace>(space: &mut S, event: &Event) -> Answer {

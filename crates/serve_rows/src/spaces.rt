@@ -50,9 +50,9 @@ fn serve_over<'p, N: Setup + Send, R: Host, G: Gate + Drop + Sync>(
 ) -> u8
     requires classes { classes.now ≡ program.now }
     requires rules { AreRemoteRules program.now.classes }
-    requires setting { N.setting ≡ setting_of program.now id digest limits }
+    requires setting { N.setting ≡ setting_of program.now id digest limits 1 }
 {
-    match ServedSpace::<'p, N>::new(rt.alloc(), program, classes, digest, id, limits) {
+    match ServedSpace::<'p, N>::new(rt.alloc(), program, classes, digest, id, limits, 1) {
         Ok(space) => serve(rt, journal, space, part, gate, lines),
         Err(_) => 3,
     }

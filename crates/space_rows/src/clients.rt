@@ -7,7 +7,7 @@ use std::alloc::{AllocError, Global};
 use std::io::Write;
 use test_rows::{RowFault, index, number, object, one_number, space, space_of};
 
-// How many objects a frame names at most.
+// How many objects a frame of version 1 names at most.
 const MOST_IDS: usize = 1_024;
 
 /// Plays a call, and prints what it answers.
@@ -20,7 +20,7 @@ pub fn play(
 ) -> Result<(), RowFault> {
     match call {
         "due" => put_due(clients, alloc, said, words),
-        "settle" => settle(clients, alloc, said, one_number(words)?),
+        "settle" => settle(clients, alloc, said, words),
         "fail" => fail(clients, alloc, words),
         "many" => Ok(hold_many(clients, one_number(words)?)?),
         "renewals" | "lapsed" => put_leases(clients, alloc, said, call, words),
@@ -76,19 +76,25 @@ fn lease(clients: &Clients, reference: &ForeignId) -> ClientLease {
     clients.lease(reference)
 }
 
-fn parts(group: &Group, alloc: Global) -> Result<Vec<Group>, AllocError> {
-    group.parts(alloc, MOST_IDS)
+fn parts(group: &Group, alloc: Global, most: usize) -> Result<Vec<Group>, AllocError> {
+    // No frame names no object.
+    group.parts(alloc, most.max(1))
 }
 
 fn settle(
     clients: &mut Clients,
     alloc: Global,
     said: &mut Vec<u8>,
-    period: u64,
+    words: &[&str],
 ) -> Result<(), RowFault> {
+    let (period, most) = match words {
+        [period] => (number(period)?, MOST_IDS),
+        [period, most] => (number(period)?, index(most)?),
+        _ => return Err(RowFault::Bad),
+    };
     for group in &due(clients, alloc)? {
         clients.made(group, 1);
-        for part in &parts(group, alloc)? {
+        for part in &parts(group, alloc, most)? {
             put_group(said, part)?;
             writeln!(said, ", under {:?}", answer(clients, part, period))?;
         }

@@ -12,7 +12,7 @@
 //! | `client hold SPACE ID`, `client drop SPACE ID`, `client moment MS` | the same of many references |
 //! | `client many N` | holds the objects 0 to N - 1 of space 7 |
 //! | `client due` | the groups of calls that are due |
-//! | `client settle MS` | makes, sends in parts of 1,024 and answers all that is due, dirty calls for this period |
+//! | `client settle MS`, `client settle MS N` | makes, sends in parts of 1,024, or of N, and answers all that is due, dirty calls for this period |
 //! | `client fail INDEX N` | makes the due group of this index as call N, which fails |
 //! | `client renewals MS`, `client lapsed MS`, `client lease SPACE ID`, `client last` | what is asked of them |
 //! | `list dirty CLIENT IDS N MS`, `list clean CLIENT IDS N [strong]` | a call of a client |
