@@ -80,6 +80,10 @@ pub fn find_field(
     ensures found { ResolvesField set.now class name.now descriptor.now result }
     ensures within { IfSome result (λ f. IsSome (field_at set.now f)) }
 {
+    if let Some(field) = own_field(set, class, name, descriptor) {
+        return Some(field);
+    }
+    // This takes as long as there are classes.
     clear(marks);
     field_from(set, class, name, descriptor, marks)
 }

@@ -114,6 +114,24 @@ fn in_interfaces(
     }
 }
 
+// The same, whatever is marked. All marks are taken away first, which takes as long as there are classes: a search that
+// ends before it comes to interfaces does not look at them.
+fn in_all_interfaces(
+    set: &ClassSet,
+    class: ClassId,
+    name: &[u8],
+    descriptor: &[u8],
+    marks: &mut [bool],
+) -> Option<MethodIndex>
+    requires set { IsClassSet set.now }
+    requires in_set { class.0 < length set.now }
+    ensures found { Finds (supertypes_of set.now) (own_of_interface set.now (spec.own_method set.now name.now descriptor.now)) (class ∷ []) result }
+    ensures within { IfSome result (λ m. IsSome (method_in set.now m)) }
+{
+    clear(marks);
+    in_interfaces(set, class, name, descriptor, marks)
+}
+
 /// Returns the method that a name and a descriptor mean in a class or an interface (JVMS 5.4.3.3,
 /// 5.4.3.4): that of the class or its first superclass that declares one, else that of the first of
 /// its superinterfaces, depth first; an `<init>` is that of the class alone. `None` if none of
@@ -133,15 +151,14 @@ pub fn find_method(
     ensures found { Resolves set.now class name.now (spec.own_method set.now name.now descriptor.now) result }
     ensures within { IfSome result (λ m. IsSome (method_in set.now m)) }
 {
-    clear(marks);
     if is_initializer(name) {
         return own_method(set, class, name, descriptor);
     }
     if set.class(class).is_interface() {
-        return in_interfaces(set, class, name, descriptor, marks);
+        return in_all_interfaces(set, class, name, descriptor, marks);
     }
     match in_superclasses(set, class, name, descriptor) {
         Some(method) => Some(method),
-        None => in_interfaces(set, class, name, descriptor, marks),
+        None => in_all_interfaces(set, class, name, descriptor, marks),
     }
 }

@@ -10,8 +10,8 @@ returns-then-is_initializer-clause-found c =
 
 pub returns-then-is_interface-clause-found : goal.returns-then-is_interface-clause-found
 returns-then-is_interface-clause-found c =
-    selections.Resolves.in_interfaces c.in_interfaces.result (not_true _ (sym c.is_initializer.ensures ∙ c.if-is_initializer.false))
-    (interface_true c.args.set.now c.args.class c.class.result.now c.class.ensures (c.is_interface.ensures.0 c.if-is_interface.true)) c.in_interfaces.ensures.found
+    selections.Resolves.in_interfaces c.in_all_interfaces.result (not_true _ (sym c.is_initializer.ensures ∙ c.if-is_initializer.false))
+    (interface_true c.args.set.now c.args.class c.class.result.now c.class.ensures (c.is_interface.ensures.0 c.if-is_interface.true)) c.in_all_interfaces.ensures.found
 
 pub returns-in-Some-clause-found : goal.returns-in-Some-clause-found
 returns-in-Some-clause-found c =
@@ -20,5 +20,5 @@ returns-in-Some-clause-found c =
 
 pub returns-in-None-clause-found : goal.returns-in-None-clause-found
 returns-in-None-clause-found c =
-    selections.Resolves.in_superinterfaces c.in_interfaces-in-None.result (not_true _ (sym c.is_initializer.ensures ∙ c.if-is_initializer.false))
-    (interface_false c.args.set.now c.args.class c.class.result.now c.class.ensures (λ is. not_true _ c.if-is_interface.false (c.is_interface.ensures.1 is))) c.in-None.ensures.found c.in_interfaces-in-None.ensures.found
+    selections.Resolves.in_superinterfaces c.in_all_interfaces-in-None.result (not_true _ (sym c.is_initializer.ensures ∙ c.if-is_initializer.false))
+    (interface_false c.args.set.now c.args.class c.class.result.now c.class.ensures (λ is. not_true _ c.if-is_interface.false (c.is_interface.ensures.1 is))) c.in-None.ensures.found c.in_all_interfaces-in-None.ensures.found
