@@ -125,7 +125,9 @@ fn in_all_interfaces(
 ) -> Option<MethodIndex>
     requires set { IsClassSet set.now }
     requires in_set { class.0 < length set.now }
-    ensures found { Finds (supertypes_of set.now) (own_of_interface set.now (spec.own_method set.now name.now descriptor.now)) (class ∷ []) result }
+    ensures found { Finds (supertypes_of set.now)
+        (own_of_interface set.now (spec.own_method set.now name.now descriptor.now))
+        (class ∷ []) result }
     ensures within { IfSome result (λ m. IsSome (method_in set.now m)) }
 {
     clear(marks);
