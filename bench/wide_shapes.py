@@ -13,6 +13,7 @@ up to 60,000 of frames; a file has as many methods as fit.
 - stores: branches, each after a local variable was stored, by many local variables
 - news: `new`, each with many ints on the stack
 - inits: `new` and its `<init>`, each with many ints on the stack
+- items: frames whose types are the class, which has a long name
 - classes: Class entries that name one long text
 - pairs: NameAndType entries that name one long text
 - starts: fields whose long names begin alike
@@ -23,7 +24,7 @@ import sys
 from long_method import PUBLIC_STATIC, PUBLIC_SUPER, attribute, u2, u4, utf8
 
 WIDE, BRANCHES, LONGEST = 60_000, 8_000, 65_535
-INT, NULL, OBJECT = b"\x01", b"\x05", b"\x07\x00\x04"
+INT, NULL, OBJECT, OWN = b"\x01", b"\x05", b"\x07\x00\x04", b"\x07\x00\x02"
 
 
 def full(delta, local_types, stack_types):
@@ -111,6 +112,12 @@ def inits(size):
     return wide + 1, *unreached(b"\xbb\x00\x04\xb7\x00\x0a" * (count // 2), [full(3, [], [INT] * wide)])
 
 
+def items(size):
+    wide, count = 250, min(size // 800, 80)
+    frames = [full(3, [OWN] * wide, [])] + [full(0, [OWN] * wide, [])] * (count - 1)
+    return 1, *unreached(b"\x00" * count, frames, wide)
+
+
 METHODS = {
     "branches": branches,
     "others": split(INT, INT),
@@ -122,15 +129,16 @@ METHODS = {
     "stores": stores,
     "news": news,
     "inits": inits,
+    "items": items,
 }
 
 
 class Writer:
     """The class T of a pool, fields and methods."""
 
-    def __init__(self):
+    def __init__(self, name):
         self.pool = [
-            utf8("T"),
+            utf8(name),
             b"\x07" + u2(1),
             utf8("java/lang/Object"),
             b"\x07" + u2(3),
@@ -141,7 +149,7 @@ class Writer:
             b"\x0c" + u2(8) + u2(7),
             b"\x0a" + u2(4) + u2(9),
         ]
-        self.size = 200
+        self.size = 200 + len(name)
         self.fields, self.methods = [], []
 
     def add(self, entry):
@@ -194,7 +202,7 @@ def write_fields(writer, size):
 
 
 def main(shape, size):
-    writer = Writer()
+    writer = Writer("T" * min(size // 8, LONGEST) if shape == "items" else "T")
     if shape in METHODS:
         write_methods(writer, shape, size)
     elif shape in ("classes", "pairs"):
