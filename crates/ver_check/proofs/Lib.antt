@@ -2,6 +2,7 @@ pub mod Accepts
 pub mod Faults
 pub mod Flows
 pub mod FrameIndices
+pub mod Landings
 pub mod Links
 pub mod Makings
 pub mod Starts

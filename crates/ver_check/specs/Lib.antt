@@ -4,6 +4,7 @@ pub mod Effects
 pub mod Faults
 pub mod Flow
 pub mod Indices
+pub mod Landed
 pub mod Listed
 pub mod Makes
 pub mod Members

@@ -66,6 +66,7 @@ fn check_code(alloc: Global, method: &MethodView) -> Result<(), BodyFault>
     let offsets = method.linked.offsets.as_slice();
     let indices = find_frames(alloc, offsets, &frames)?;
     let body = BodyView {
+        alloc,
         method,
         declared: &frames,
         indices: &indices,

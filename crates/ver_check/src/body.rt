@@ -1,5 +1,6 @@
 //! What is checked of a method: the method and the frames that it declares.
 
+use std::alloc::Global;
 use std::marker::Model;
 use ver_frames::{DeclaredFrames, MethodView};
 
@@ -7,6 +8,7 @@ use ver_frames::{DeclaredFrames, MethodView};
 // that is checked.
 #[derive(Drop)]
 pub(crate) struct BodyView<'a> {
+    pub(crate) alloc: Global,
     pub(crate) method: &'a MethodView<'a>,
     pub(crate) declared: &'a DeclaredFrames,
     // For each instruction the index of the frame that is declared at it, past the last if none is.

@@ -1,6 +1,6 @@
 //! The pass over the instructions of a body, with the frame at the current one.
 
-ghost use Rattle.std.specs.Prelude.{◌≡◌};
+ghost use Rattle.std.specs.Prelude.{◌≡◌, IfOk, false, length, replicate, slice_index_or, slice_set, true};
 ghost use Rattle.cls_link.specs.declared.linked_code.LinkedInsn.TheVariants.{Switch};
 ghost use Rattle.std.specs.Prelude.{◌∷◌};
 ghost use Rattle.ver_check.specs.Effects.{falls_through};
@@ -8,7 +8,34 @@ ghost use Rattle.ver_check.specs.Effects.{falls_through};
 use super::body::BodyView;
 use super::stop::Stop;
 use super::{CheckRule, LinkedInsn, LinkedSwitch, TypeFrame};
-use ver_frames::{DeclaredFrame, frame_assignable};
+use std::alloc::{AllocError, Global};
+use ver_frames::{DeclaredFrame, DeclaredFrames, frame_assignable};
+
+// A mark for each of the frames: none is set.
+fn no_marks(alloc: Global, frames: &DeclaredFrames) -> Result<Vec<bool>, AllocError>
+    ensures { IfOk result (λ marks. marks.items ≡ replicate (length frames.now) false) }
+{
+    vec![in alloc; false; frames.len()]
+}
+
+// Whether the frame at an index is marked.
+fn is_marked(marks: &[bool], index: usize) -> bool
+    ensures { result ≡ slice_index_or marks.now index false }
+{
+    match marks.get(index) {
+        Some(mark) => *mark,
+        None => false,
+    }
+}
+
+// Marks the frame at an index, if there is one.
+fn mark(marks: &mut Vec<bool>, index: usize)
+    ensures { marks.new.items ≡ slice_set marks.old.items index true }
+{
+    if index < marks.len() {
+        marks[index] = true;
+    }
+}
 
 // Whether the next instruction may come after it.
 fn falls_through(insn: LinkedInsn) -> bool
@@ -33,6 +60,7 @@ impl BodyView<'_> {
     ghost use Rattle.ver_check.specs.Faults.{IsWrongAmong, IsWrongAt, IsWrongEntry, IsWrongNext, IsWrongTarget};
     ghost use Rattle.ver_check.specs.Flow.{ComesIn, GoesTo, LandsOnAll, Passes, Settles};
     ghost use Rattle.ver_check.specs.Indices.{frame_of};
+    ghost use Rattle.ver_check.specs.Landed.{LandsOnMarked};
     ghost use Rattle.ver_check.specs.Typing.{Lands};
 
     // How many instructions there are.
@@ -106,12 +134,43 @@ impl BodyView<'_> {
         Ok(())
     }
 
+    // A frame comes in at the target of a branch. The frame that is declared there is marked then,
+    // and not looked at again.
+    fn land_once(&self, frame: &TypeFrame, marks: &mut Vec<bool>, target: u16) -> Result<(), Stop>
+        requires { LandsOnMarked self.now frame.now marks.old.items }
+        ensures settles { (from : ℕ) → Settles from result (Lands self.now frame.now target)
+            (IsWrongTarget self.now from frame.now target) }
+        ensures marked { LandsOnMarked self.now frame.now marks.new.items }
+    {
+        let index = self.index_at(usize::from(target));
+        if is_marked(marks, index) {
+            Ok(())
+        } else {
+            self.land(frame, target)?;
+            mark(marks, index);
+            Ok(())
+        }
+    }
+
+    // A frame comes in at each of the targets, of which many may be equal.
+    fn land_on_many(&self, frame: &TypeFrame, targets: &[u16]) -> Result<(), Stop>
+        ensures { (from : ℕ) → Settles from result
+            (AllByRecursion (Lands self.now frame.now) targets.now)
+            (IsWrongAmong self.now from frame.now targets.now) }
+    {
+        let mut marks = no_marks(self.alloc, self.declared)?;
+        for target in targets {
+            self.land_once(frame, &mut marks, *target)?;
+        }
+        Ok(())
+    }
+
     // A frame comes in at the default target, and at each of the others.
     fn land_on_cases(&self, frame: &TypeFrame, default: u16, targets: &[u16]) -> Result<(), Stop>
         ensures { (from : ℕ) → Settles from result (AllByRecursion (Lands self.now frame.now) (default ∷ targets.now)) (IsWrongAmong self.now from frame.now (default ∷ targets.now)) }
     {
         self.land(frame, default)?;
-        self.land_on_each(frame, targets)
+        self.land_on_many(frame, targets)
     }
 
     // A frame comes in at each target of a switch.

@@ -9,4 +9,4 @@ returns-in_err-land c = λ from.
 
 pub returns : goal.returns
 returns c = λ from.
-    lands_first c.args.self.now from c.args.frame.now c.args.default c.args.targets.now c.land_on_each.result (c.in_ok-land.ensures from) (c.land_on_each.ensures from)
+    lands_first c.args.self.now from c.args.frame.now c.args.default c.args.targets.now c.land_on_many.result (c.in_ok-land.ensures from) (c.land_on_many.ensures from)
