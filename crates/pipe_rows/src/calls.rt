@@ -23,7 +23,7 @@ fn refused(fault: CoreFault) -> RowFault {
     }
 }
 
-pub fn space<S, O: Origin<S>>(origin: &O, id: Uuid) -> Result<S, RowFault> {
+pub fn space<S: ScriptSpace, O: Origin<S>>(origin: &O, id: Uuid) -> Result<S, RowFault> {
     Ok(origin.space(id, 1)?)
 }
 

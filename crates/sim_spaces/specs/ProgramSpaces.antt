@@ -1,7 +1,7 @@
 -- Spaces as scripts play them. (This project's own.)
 use Rattle.std.specs.Prelude.{ℕ, List}
 use Rattle.cls_link.specs.Links.{Links}
-use Rattle.sim_worlds.specs.declared.script_space.Shown.{Shown}
+use Rattle.sim_shows.specs.declared.script_space.Shown.{Shown}
 use Rattle.sp_core.specs.Shown as core
 use Rattle.vm_step.specs.declared.limits.Limits.{Limits}
 

@@ -8,6 +8,7 @@ ghost use Rattle.sp_rules.specs.State.{State, standing};
 ghost use Rattle.sp_core.specs.Shown.{lowest_ready, shown};
 ghost use Rattle.sp_files.specs.Names.{NamesMethod};
 ghost use Rattle.sim_spaces.specs.ProgramSpaces.{played_limits, shown_of};
+ghost use Rattle.sim_shows.specs.Lines.{sights};
 
 use crate::names::{class_name_of, method_of, shown_as};
 use sim_worlds::{Named, ScriptSpace, Shown};
@@ -53,6 +54,9 @@ impl<'p> WorldSpace for ProgramSpace<'p> {
 }
 
 impl<'p> Named for ProgramSpace<'p> {
+    ghost is_named = { λ home class name. (Some name
+        ≡ name_at home.space.program.now.classes class) ⊎ (name_at home.space.program.now.classes class ≡ None) };
+
     fn method(&self, class: &str, method: &str) -> Result<u32, CoreFault>
         ensures { Contains method.now 40 → IfOk result (λ number. NamesMethod
             self.now.space.program.now class.now method.now (Some (record { 0 = number }))) }
@@ -72,8 +76,8 @@ impl<'p> Named for ProgramSpace<'p> {
     }
 
     fn class_name(&self, class: ClassId) -> &[u8]
-        ensures { Some result.now
-            ≡ name_at self.now.space.program.now.classes class ⊎ (name_at self.now.space.program.now.classes class ≡ None) }
+        ensures { (Some result.now
+            ≡ name_at self.now.space.program.now.classes class) ⊎ (name_at self.now.space.program.now.classes class ≡ None) }
     {
         class_name_of(self.space.program(), class)
     }
@@ -85,6 +89,13 @@ impl<'p> ScriptSpace for ProgramSpace<'p> {
             ≡ lowest_ready [] s }
     {
         self.space.ready()
+    }
+
+    fn standing_object(&self, index: usize) -> Option<Shown>
+        ensures { (g : Setting) (s : State) → IsSpace g s self.now.space → result
+            ≡ slice_get (sights s) index }
+    {
+        self.object(index)
     }
 
     fn most_fuel(&self) -> u64

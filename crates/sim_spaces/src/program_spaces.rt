@@ -1,6 +1,7 @@
 //! The spaces of a program.
 
 ghost use Rattle.std.specs.Prelude.{◌≡◌, IfOk};
+ghost use Rattle.sp_promises.specs.WorldRuns.{IsNew};
 ghost use Rattle.sp_space.specs.Spaces.{AreLimits, IsSpace};
 ghost use Rattle.sp_behaviours.specs.Classes.{classes_of};
 ghost use Rattle.sp_behaviours.specs.Told.{AreRemoteRules};
@@ -66,9 +67,11 @@ impl<'p> ProgramSpaces<'p> {
 impl<'p> Origin<ProgramSpace<'p>> for ProgramSpaces<'p> {
     // It keeps within the limits that are there unless others are asked for.
     fn space(&self, id: Uuid, version: u8) -> Result<ProgramSpace<'p>, AllocError>
-        ensures { IfOk result (λ home. (g : Setting) → g.classes ≡ classes_of self.now.links
+        ensures space { IfOk result (λ home. (g : Setting)
+            → g.classes ≡ classes_of self.now.links
             → g.id ≡ id → g.digest ≡ self.now.digest → AreLimits g played_limits → g.version ≡ version
             → IsSpace g opening home.space) }
+        ensures new { IfOk result (IsNew (λ g s home. IsSpace g s home.space)) }
     {
         let space = Space::new(
             self.alloc,

@@ -49,7 +49,7 @@ impl<S: ScriptSpace + Drop> ScriptRun<S> {
     ) -> Result<(), PlayFault> {
         let number = self.names.number(space)?;
         let arguments = Row::new(self.variables.values(words)?);
-        let Some(played) = self.world.space(number) else {
+        let Some(played) = self.played.world().space(number) else {
             return Err(PlayFault::Bad);
         };
         let method = match played.method(class, method) {

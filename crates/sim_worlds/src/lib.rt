@@ -7,20 +7,17 @@
 //! nothing.
 #![tactic(auto)]
 
-pub use fault::{PlayFault, ScriptFault};
 pub use script::{play_recorded, play_script};
-pub use script_space::{Named, Origin, ScriptSpace, Shown, Start};
 pub use sim_happenings::ScriptRecord;
-pub use texts::{SpaceNames, put_object, put_outcome};
+pub use sim_shows::{Named, Origin, PlayFault, ScriptFault, ScriptSpace, Shown, Start, put_object};
+pub use texts::{SpaceNames, put_outcome};
 pub use variables::{TaskKey, Variable, Variables, started};
 
 mod commands;
 mod endings;
-mod fault;
 mod names;
 mod script;
 mod script_run;
-mod script_space;
 mod settling;
 mod texts;
 mod variables;

@@ -1,5 +1,8 @@
 //! Whole scripts.
 
+ghost use Rattle.std.specs.Prelude.{All, IfOk};
+ghost use Rattle.sp_promises.specs.WorldRuns.{IsNew};
+
 use crate::names::Names;
 use crate::script_run::ScriptRun;
 use crate::{Origin, PlayFault, ScriptFault, ScriptSpace};
@@ -121,15 +124,18 @@ fn make_spaces<S: ScriptSpace + Drop, O: Origin<S>>(
     alloc: Global,
     origin: &O,
     names: &Names,
-) -> Result<Vec<S>, ScriptFault> {
+) -> Result<Vec<S>, ScriptFault>
+    ensures new { IfOk result (λ spaces. All (IsNew S.is_space) spaces.items) }
+{
     let mut spaces = Vec::new(alloc);
     for number in 0..names.len() {
         let (Ok(id), Ok(version)) = (names.id(number), names.version(number)) else {
             return Err(ScriptFault::Memory);
         };
         let space = origin.space(id, version)?;
-        if spaces.push(space).is_err() {
-            return Err(ScriptFault::Memory);
+        match spaces.push(space) {
+            Ok(()) => {}
+            Err(_) => return Err(ScriptFault::Memory),
         }
     }
     Ok(spaces)

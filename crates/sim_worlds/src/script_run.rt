@@ -1,8 +1,11 @@
 //! A script as it is played: what has happened, and what was shown.
 
+ghost use Rattle.std.specs.Prelude.{◌≡◌, ◌++◌, ℕ, All, IfOk, List};
+ghost use Rattle.sp_promises.specs.WorldRuns.{IsNew};
+
 use crate::endings::{Scene, keep_endings};
 use crate::names::Names;
-use crate::texts::{put_object, put_outcome};
+use crate::texts::put_outcome;
 use crate::variables::{TaskKey, Variable, Variables, started};
 use crate::{PlayFault, ScriptSpace};
 use sim_agenda::{
@@ -10,19 +13,19 @@ use sim_agenda::{
     occurrence_of,
 };
 use sim_happenings::{Happening, ScriptRecord};
-use sp_promises::run;
+use sim_shows::ShownRun;
 use sp_world::{CoreFault, Dial, End, Output, World, WorldEvent};
 use space_ids::Row;
 use std::alloc::Global;
 use std::collections::VecDeque;
-use std::mem;
 
 /// A script as it is played over a world: the names of its spaces, the connections that were opened, the
 /// variables, what can happen next, the lines that were shown, and a record.
 #[derive(Drop)]
-pub(crate) struct ScriptRun<S> {
+pub(crate) struct ScriptRun<S: ScriptSpace + Drop> {
     pub(crate) alloc: Global,
-    pub(crate) world: World<S>,
+    // The world, with what was shown of its objects.
+    pub(crate) played: ShownRun<S>,
     pub(crate) names: Names,
     pub(crate) connections: Routes,
     pub(crate) variables: Variables,
@@ -31,46 +34,51 @@ pub(crate) struct ScriptRun<S> {
     pub(crate) unaccepted: VecDeque<u64>,
     // One that was told of no space keeps nothing.
     pub(crate) record: ScriptRecord,
-    text: Vec<u8>,
 }
 
 impl<S: ScriptSpace + Drop> ScriptRun<S> {
     /// Returns a script of which only the spaces are made, whose names these are.
-    pub fn new(alloc: Global, names: Names, spaces: Vec<S>) -> Result<ScriptRun<S>, PlayFault> {
+    pub fn new(alloc: Global, names: Names, spaces: Vec<S>) -> Result<ScriptRun<S>, PlayFault>
+        requires new { All (IsNew S.is_space) spaces.items }
+    {
         Ok(ScriptRun {
             alloc,
-            world: World::new(alloc, spaces)?,
+            played: ShownRun::new(alloc, spaces)?,
             names,
             connections: Routes::new(alloc),
             variables: Variables::new(alloc),
             agenda: Agenda::new(alloc),
             unaccepted: VecDeque::new(alloc),
             record: ScriptRecord::new(alloc, false),
-            text: Vec::new(alloc),
         })
     }
 
     /// Returns the lines that were shown, and after them one for each variable, with how its task ended or
     /// that it waits.
-    pub fn finish(self) -> Result<Vec<u8>, PlayFault> {
+    pub fn finish(self) -> Result<Vec<u8>, PlayFault>
+        ensures shown { IfOk result (λ text. (outcomes : List ℕ)
+            × (text.items ≡ self.played.text ++ outcomes)) }
+    {
         let ScriptRun {
-            alloc: _,
-            world,
+            alloc,
+            played,
             names,
             connections: _,
             variables,
             agenda: _,
             unaccepted: _,
             record: _,
-            text,
         } = self;
-        with_outcomes(text, &world, &names, &variables)
+        let (mut text, run) = played.into_parts();
+        let outcomes = outcomes_of(alloc, run.world(), &names, &variables)?;
+        text.extend_from_slice(&outcomes)?;
+        Ok(text)
     }
 
     // Keeps how many objects stand in each space.
     pub(crate) fn count_standing(&mut self) {
         for number in 0..self.record.names().len() {
-            if let Some(space) = self.world.space(number) {
+            if let Some(space) = self.played.world().space(number) {
                 keep_standing(&mut self.record, number, standing_in(space));
             }
         }
@@ -88,26 +96,9 @@ impl<S: ScriptSpace + Drop> ScriptRun<S> {
     // Lets an event happen, and takes what it was answered. Returns why it was refused, if it was.
     pub(crate) fn happen(&mut self, event: WorldEvent) -> Result<Option<CoreFault>, PlayFault> {
         let occurrence = occurrence_of(&event, &self.connections);
-        self.run(event)?;
+        self.played.happen(event)?;
         self.take_answers(occurrence)?;
-        Ok(self.world.refused())
-    }
-
-    // Runs the world for an event: the run takes it, and gives it back. Until then a world of no space stands here,
-    // which takes no memory.
-    fn run(&mut self, event: WorldEvent) -> Result<(), PlayFault> {
-        let none = World::new(self.alloc, Vec::new(self.alloc))?;
-        let world = mem::replace(&mut self.world, none);
-        match run(world, &[event]) {
-            Ok(world) => {
-                self.world = world;
-                Ok(())
-            }
-            Err(unfinished) => {
-                self.world = unfinished.world;
-                Err(PlayFault::Memory)
-            }
-        }
+        Ok(self.played.world().refused())
     }
 
     // Lets a root or a look-up of a space, which a verb names, begin, and gives its task a variable. Returns why it
@@ -122,8 +113,8 @@ impl<S: ScriptSpace + Drop> ScriptRun<S> {
         if self.variables.find(variable).is_some() {
             return Err(PlayFault::Bad);
         }
-        self.run(event)?;
-        if let Some(fault) = self.world.refused() {
+        self.played.happen(event)?;
+        if let Some(fault) = self.played.world().refused() {
             return Ok(Some(fault));
         }
         let Some(task) = started(self.last_outputs(space)) else {
@@ -155,7 +146,7 @@ impl<S: ScriptSpace + Drop> ScriptRun<S> {
 
     // What the last event that came to a space answered.
     fn last_outputs(&self, space: usize) -> &[Output] {
-        match self.world.outputs(space) {
+        match self.played.world().outputs(space) {
             Some([.., last]) => last.as_slice(),
             _ => &[],
         }
@@ -165,7 +156,7 @@ impl<S: ScriptSpace + Drop> ScriptRun<S> {
     // what a record keeps. The world lets go of it.
     fn take_answers(&mut self, occurrence: Occurrence) -> Result<(), PlayFault> {
         if let Some(conn) = occurrence.conn {
-            let is_queued = is_queued(&self.world, conn);
+            let is_queued = is_queued(self.played.world(), conn);
             self.agenda.note_connection(conn, is_queued)?;
         }
         let Some(space) = occurrence.space else {
@@ -175,17 +166,15 @@ impl<S: ScriptSpace + Drop> ScriptRun<S> {
         self.keep_answers(occurrence, space)?;
         let is_ready = self.ready(space).is_some();
         self.agenda.note_space(space, is_ready)?;
-        if self.world.is_settled() {
-            self.world.forget_outputs(space);
-        }
+        self.played.forget_outputs(space);
         Ok(())
     }
 
     // Notes which tasks a space has ended, and on which connections it has put something.
     fn note(&mut self, space: usize) -> Result<(), PlayFault> {
-        for row in self.world.outputs(space).unwrap_or(&[]) {
+        for row in self.played.world().outputs(space).unwrap_or(&[]) {
             self.variables.note(space, row)?;
-            note_connections(&self.world, &mut self.agenda, row)?;
+            note_connections(self.played.world(), &mut self.agenda, row)?;
         }
         Ok(())
     }
@@ -196,7 +185,7 @@ impl<S: ScriptSpace + Drop> ScriptRun<S> {
         if record.names().is_empty() {
             return Ok(());
         }
-        let Some(played) = self.world.space(space) else {
+        let Some(played) = self.played.world().space(space) else {
             return Ok(());
         };
         let scene = Scene {
@@ -206,7 +195,7 @@ impl<S: ScriptSpace + Drop> ScriptRun<S> {
             names: &self.names,
             variables: &self.variables,
         };
-        for row in self.world.outputs(space).unwrap_or(&[]) {
+        for row in self.played.world().outputs(space).unwrap_or(&[]) {
             keep_event(record, space, occurrence)?;
             keep_endings(record, &scene, row)?;
             keep_outputs(self.alloc, record, &self.connections, space, row)?;
@@ -217,21 +206,12 @@ impl<S: ScriptSpace + Drop> ScriptRun<S> {
     // Shows each standing object of the space of this name, in the order of ids.
     pub(crate) fn show(&mut self, name: &str) -> Result<(), PlayFault> {
         let number = self.names.number(name)?;
-        let Some(space) = self.world.space(number) else {
-            return Err(PlayFault::Bad);
-        };
-        for index in 0..usize::MAX {
-            let Some(shown) = space.object(index) else {
-                return Ok(());
-            };
-            put_object(&mut self.text, space, name, &shown)?;
-        }
-        Ok(())
+        self.played.show(number, name)
     }
 
     // The lowest task of a space that may go on.
     pub(crate) fn ready(&self, number: usize) -> Option<u64> {
-        self.world.space(number)?.ready()
+        self.played.world().space(number)?.ready()
     }
 
     // Opens a connection for a dial that waits, and lets the peer accept it. Nothing happens if none waits.
@@ -260,9 +240,9 @@ impl<S: ScriptSpace + Drop> ScriptRun<S> {
 
     // Whether a dial waits.
     fn is_asked(&mut self, dial: Dial) -> Result<bool, PlayFault> {
-        self.world.settle()?;
+        self.played.settle()?;
         Ok(
-            self.world.asked().iter().any(|asked| asked.dialler == dial.dialler
+            self.played.world().asked().iter().any(|asked| asked.dialler == dial.dialler
                 && asked.dialled == dial.dialled),
         )
     }
@@ -335,15 +315,14 @@ fn is_queued<S: ScriptSpace + Drop>(world: &World<S>, conn: u64) -> bool {
     world.queued(conn, End::Accepter) || world.queued(conn, End::Dialler)
 }
 
-// Returns the lines with one more for each variable. The world and the names are lent to it, so that they go
-// out of scope at one place.
-fn with_outcomes<S: ScriptSpace + Drop>(
-    text: Vec<u8>,
+// Returns a line for each variable. The world and the names are lent to it, so that they go out of scope at one place.
+fn outcomes_of<S: ScriptSpace + Drop>(
+    alloc: Global,
     world: &World<S>,
     names: &Names,
     variables: &Variables,
 ) -> Result<Vec<u8>, PlayFault> {
-    let mut text = text;
+    let mut text = Vec::new(alloc);
     for index in 0..variables.len() {
         if let Some(variable) = variables.at(index)
             && let Some(space) = world.space(variable.key.space)

@@ -44,17 +44,17 @@ impl<S: ScriptSpace + Drop> ScriptRun<S> {
     }
 
     fn first_dial(&mut self) -> Result<Option<Dial>, PlayFault> {
-        self.world.settle()?;
-        Ok(self.world.asked().first().copied())
+        self.played.settle()?;
+        Ok(self.played.world().asked().first().copied())
     }
 
     // The first frame, or end, that can be delivered.
     fn first_delivery(&mut self) -> Option<WorldEvent> {
-        if !self.world.is_settled() {
+        if !self.played.world().is_settled() {
             return None;
         }
         let conn = self.agenda.first_queued()?;
-        let to = if self.world.queued(conn, End::Accepter) {
+        let to = if self.played.world().queued(conn, End::Accepter) {
             End::Accepter
         } else {
             End::Dialler

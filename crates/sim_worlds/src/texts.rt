@@ -1,7 +1,7 @@
-//! The lines that spaces show.
+//! The lines that scripts show of variables.
 
 use crate::names::Names;
-use crate::{Named, PlayFault, Shown};
+use crate::{Named, PlayFault};
 use sp_tasks::Outcome;
 use space_ids::{Uuid, Value};
 use std::io::Write;
@@ -17,19 +17,6 @@ impl SpaceNames for Names {
         text.extend_from_slice(self.of(id).as_bytes())?;
         Ok(())
     }
-}
-
-/// Adds the line of an object of the space of this name: `S ID CLASS names=N entries=K`.
-pub fn put_object<S: Named>(
-    text: &mut Vec<u8>,
-    space: &S,
-    name: &str,
-    shown: &Shown,
-) -> Result<(), PlayFault> {
-    write!(text, "{name} {} ", shown.id.0)?;
-    text.extend_from_slice(space.class_name(shown.class))?;
-    writeln!(text, " names={} entries={}", shown.names, shown.entries)?;
-    Ok(())
 }
 
 /// Adds the line of a variable, and of how its task ended, if it has: `VAR OUTCOME`, or `VAR waiting`.

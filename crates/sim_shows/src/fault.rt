@@ -1,6 +1,7 @@
 //! Why a command, or a script, is not played.
 
 use sim_script::LineFault;
+use sp_promises::Interrupted;
 use sp_world::CoreFault;
 use std::alloc::{AllocError, AllocFailed};
 use std::io;
@@ -26,6 +27,12 @@ impl<T: Drop> From<AllocFailed<T>> for PlayFault {
     }
 }
 
+impl From<Interrupted> for PlayFault {
+    fn from(_: Interrupted) -> PlayFault {
+        PlayFault::Memory
+    }
+}
+
 // A writer in memory fails only if it has no room.
 impl From<io::Error> for PlayFault {
     fn from(_: io::Error) -> PlayFault {
@@ -43,10 +50,10 @@ impl From<LineFault> for PlayFault {
 }
 
 impl PlayFault {
-    // Why a root that the space refuses is not played, if the line is bad for it: no task starts at its
-    // method with its arguments, a reference is of no standing object or has no lease, its fuel is over the
-    // limit, or too many tasks live.
-    pub(crate) fn of_root(fault: CoreFault) -> Option<PlayFault> {
+    /// Why a root that the space refuses is not played, if the line is bad for it: no task starts at its
+    /// method with its arguments, a reference is of no standing object or has no lease, its fuel is over the
+    /// limit, or too many tasks live.
+    pub fn of_root(fault: CoreFault) -> Option<PlayFault> {
         match fault {
             CoreFault::Start(_) | CoreFault::NotHeld | CoreFault::WrongKind | CoreFault::Busy => {
                 Some(PlayFault::Bad)
@@ -57,9 +64,9 @@ impl PlayFault {
         }
     }
 
-    // Why a look-up that the space refuses is not played, if the line is bad for it: its peer is the space
-    // itself.
-    pub(crate) fn of_lookup(fault: CoreFault) -> Option<PlayFault> {
+    /// Why a look-up that the space refuses is not played, if the line is bad for it: its peer is the space
+    /// itself.
+    pub fn of_lookup(fault: CoreFault) -> Option<PlayFault> {
         match fault {
             CoreFault::Strange => Some(PlayFault::Bad),
             CoreFault::Memory => Some(PlayFault::Memory),

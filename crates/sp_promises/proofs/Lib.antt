@@ -1,0 +1,2 @@
+mod LateLemmas
+mod RunLemmas
