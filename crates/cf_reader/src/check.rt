@@ -59,11 +59,11 @@ fn check_each_interface(pool: &Pool, interfaces: &[Item]) -> Result<(), ReadFaul
 
 // The constant pool, the flags, this and super.
 #[tactic(auto, unfolding(crate::specs::Checks::head_demands), using(cf_text::proofs::Verdicts::verdicts))]
-fn check_head(layout: &Layout) -> Result<(), ReadFault>
+fn check_head(alloc: Global, layout: &Layout) -> Result<(), ReadFault>
     ensures { Gives (verdict (head_demands layout.now)) result }
 {
     let pool = &layout.pool.pool;
-    check_pool(&layout.pool)?;
+    check_pool(alloc, &layout.pool)?;
     check_class_flags(layout.flags)?;
     check_class_index(pool, layout.this)?;
     check_class_index(pool, layout.superclass)
@@ -113,7 +113,7 @@ fn check_methods(alloc: Global, bytes: &[u8], layout: &Layout) -> Result<(), Rea
 pub(crate) fn check_layout(alloc: Global, bytes: &[u8], layout: &Layout) -> Result<(), ReadFault>
     ensures { Gives (verdict (demands (insides_of bytes.now) layout.now)) result }
 {
-    check_head(layout)?;
+    check_head(alloc, layout)?;
     check_interfaces(layout)?;
     check_fields(alloc, bytes, layout)?;
     check_methods(alloc, bytes, layout)?;

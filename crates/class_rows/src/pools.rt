@@ -32,7 +32,7 @@ fn layout_of(alloc: Global, bytes: &[u8]) -> Result<(PoolLayout, usize), ReadFau
 
 fn check(alloc: Global, bytes: &[u8]) -> Result<(), ReadFault> {
     let (layout, _) = layout_of(alloc, bytes)?;
-    check_pool(&layout)
+    check_pool(alloc, &layout)
 }
 
 fn text_at(pool: &Pool, index: u16) -> Option<&Text> {
