@@ -80,7 +80,8 @@ fn run<N: Naming, S: Lender + Drop, R: Wait, W: Write>(
     out: &mut W,
 ) -> io::Result<Pass<N>> {
     let gate = Until {
-        left: AtomicU64::new(count),
+        count,
+        ended: AtomicU64::new(0),
     };
     let pass = work(rt, alloc, book, pass, &gate);
     put_all(out, book.outputs(rt, alloc)?)?;

@@ -12,7 +12,10 @@ const TURNS: u64 = 10_000;
 /// Lets workers run until so many tasks have ended.
 #[derive(Drop)]
 pub struct Until {
-    pub left: AtomicU64,
+    pub count: u64,
+    /// How many have ended. It rises in one step, so that of two that end at once both are counted, and one that ends
+    /// after the last is one more.
+    pub ended: AtomicU64,
 }
 
 impl Gate for Until {
@@ -21,12 +24,11 @@ impl Gate for Until {
     }
 
     fn after_end(&self, _task: u64) {
-        let left = self.left.load(Ordering::SeqCst);
-        self.left.store(left.saturating_sub(1), Ordering::SeqCst);
+        self.ended.fetch_add(1, Ordering::SeqCst);
     }
 
     fn stop(&self) -> bool {
-        self.left.load(Ordering::SeqCst) == 0
+        self.ended.load(Ordering::SeqCst) >= self.count
     }
 }
 
