@@ -10,8 +10,9 @@ use sp_tasks::Op;
 use std::alloc::Global;
 use std::sync::Wait;
 
-// How many instructions a slice has at most.
-const SLICE: u64 = 256;
+// How many instructions a slice has at most: so many that what a slice costs beside them, where the gate is asked and
+// the machine is moved, is little.
+const SLICE: u64 = 65_536;
 
 // What a worker does once a task is no more in hand.
 #[derive(Clone, Copy)]
