@@ -1,7 +1,7 @@
 -- An order of the members of a class by their names and descriptors, in which they are searched. Of a name and a descriptor the shorter
 -- one is compared first: so a long text that many members share is compared only where the other one is the same too. (This project's own.)
 use Rattle.std.specs.Prelude.{◌≡◌, ◌<◌, ◌&&◌, ℕ, Bool, true, false, Option, Some, None, List, [], All, Contains}
-use Rattle.std.specs.Prelude.{bytes_eq, if◌then◌else◌, length, map, nat_le, slice_get, slice_index_or}
+use Rattle.std.specs.Prelude.{bytes_eq, codes, if◌then◌else◌, length, map, nat_le, slice_get, slice_index_or}
 use Rattle.std.specs.List.{position}
 use Rattle.std.specs.List.Sorted.{IsPartitionPoint, IsSortedBy}
 use Rattle.std.specs.Ordering.{bool_cmp, is_lt, nat_cmp, on, then_cmp}
@@ -10,11 +10,12 @@ use Rattle.cf_reader.specs.declared.class_file.ClassFile.{ClassFile}
 use Rattle.cf_reader.specs.declared.class_file.Field.{Field}
 use Rattle.cf_reader.specs.declared.class_file.Method.{Method}
 use Rattle.cls_order.specs.declared.class.Class.{Class}
-use Rattle.cls_order.specs.Classes.{name_cmp}
+use Rattle.cls_order.specs.Classes.{name_cmp, number_of}
 use Rattle.cls_order.specs.declared.entries.Entry.{Entry}
 use Rattle.cls_order.specs.Entries.{classes_of, HaveTables, IsRanked}
 use Rattle.cls_order.specs.Sets.{IsClassSet}
 use Rattle.cls_set.specs.declared.remote.MemberKind.{MemberKind}
+use Rattle.space_ids.specs.declared.ids.ClassId.{ClassId}
 use Rattle.cls_set.specs.declared.remote.MemberKind.TheVariants.{Fields, Methods}
 
 -- a name and a descriptor
@@ -86,10 +87,11 @@ pub record HaveOrders (kind : MemberKind) (classes : List Class) (orders : List 
   pub one_each : length orders ≡ length classes
   pub order : (k : ℕ) (c : Class) → slice_get classes k ≡ Some c → IsOrder (keys_of kind c.file) (slice_index_or orders k [])
 
--- what a set keeps: its entries, and for each class a table of its supertypes and the orders of its methods and fields
-pub record AreKept (entries : List Entry) (told : List (List Bool)) (method_orders field_orders : List (List ℕ)) : Type 0 where
+-- what a set keeps: its entries, for each class a table of its supertypes and the orders of its methods and fields, and the number of java/rmi/Remote
+pub record AreKept (entries : List Entry) (told : List (List Bool)) (method_orders field_orders : List (List ℕ)) (remote_number : Option ClassId) : Type 0 where
   pub set : IsClassSet (classes_of entries)
   pub ranked : All (IsRanked entries) entries
   pub tables : HaveTables (classes_of entries) told
   pub methods : HaveOrders Methods (classes_of entries) method_orders
   pub fields : HaveOrders Fields (classes_of entries) field_orders
+  pub remote : remote_number ≡ number_of (classes_of entries) (codes "java/rmi/Remote")

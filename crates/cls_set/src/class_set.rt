@@ -21,6 +21,8 @@ pub struct ClassSet {
     // For each class its methods, and its fields, by name and descriptor.
     methods: Vec<Row<u16>>,
     fields: Vec<Row<u16>>,
+    // The number of java/rmi/Remote, which is asked for at each remote call.
+    remote_number: Option<ClassId>,
 }
 
 impl Model for ClassSet {
@@ -34,11 +36,11 @@ impl Model for ClassSet {
 
     ghost view = { λ set. classes_of set.members.items };
 
-    ghost invariant = { λ set. AreKept set.members.items set.tables.items set.methods.items set.fields.items };
+    ghost invariant = { λ set. AreKept set.members.items set.tables.items set.methods.items set.fields.items set.remote_number };
 }
 
 impl ClassSet {
-    ghost use Rattle.std.specs.Prelude.{◌≡◌, ◌<◌, ◌↔◌, All, Some, IsTrue, IfOk, IfErr, IfSome, OnOk, length, slice_get};
+    ghost use Rattle.std.specs.Prelude.{◌≡◌, ◌<◌, ◌↔◌, All, Some, IsTrue, IfOk, IfErr, IfSome, OnOk, codes, length, slice_get};
     ghost use Rattle.cf_reader.specs.WellFormed.{IsWellFormed};
     ghost use Rattle.cls_order.specs.Classes.{name_at, number_of};
     ghost use Rattle.space_ids.specs.declared.ids.ClassId.{ClassId};
@@ -82,11 +84,13 @@ impl ClassSet {
         let tables = tables(alloc, entries.as_slice())?;
         let fields = orders(alloc, entries.as_slice(), MemberKind::Fields)?;
         let members = number_classes(alloc, entries)?;
+        let remote_number = find_number(&members, b"java/rmi/Remote");
         Ok(ClassSet {
             members,
             tables,
             methods: facts.orders,
             fields,
+            remote_number,
         })
     }
 
@@ -147,6 +151,13 @@ impl ClassSet {
         find_number(&self.members, name)
     }
 
+    /// Returns the number of java/rmi/Remote. It looks at no name.
+    pub fn remote(&self) -> Option<ClassId>
+        ensures { result ≡ number_of self.now (codes "java/rmi/Remote") }
+    {
+        self.remote_number
+    }
+
     /// Returns whether a class is another or a subclass of it.
     pub fn is_subclass(&self, sub: ClassId, sup: ClassId) -> bool
         requires { sub.0 < length self.now }
@@ -171,7 +182,7 @@ impl ClassSet {
         requires { class.0 < length self.now }
         ensures { IsTrue result ↔ IsRemote self.now class }
     {
-        match self.number(b"java/rmi/Remote") {
+        match self.remote() {
             Some(remote) => !self.class(class).is_interface() && self.implements(class, remote),
             None => false,
         }

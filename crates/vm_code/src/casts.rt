@@ -24,7 +24,7 @@ pub fn is_subtype(set: &ClassSet, class: ClassId, asked: ClassId) -> bool
 pub fn is_below_remote(set: &ClassSet, class: ClassId) -> bool
     ensures { result ≡ is_below_remote set.now class }
 {
-    match set.number(b"java/rmi/Remote") {
+    match set.remote() {
         Some(remote) => is_subtype(set, class, remote),
         None => false,
     }

@@ -10,11 +10,11 @@ returns-then-not-is_interface c = (
   λ e. record {
     is_class = some_and (slice_get c.args.self.now c.args.class.0) (λ k. ¬ IsInterface k) c.class.result.now c.class.ensures (λ h. not_true c.is_interface.result c.if-not-is_interface.true (c.is_interface.ensures.1 h));
     remote = c.in-Some.remote;
-    named = sym c.in-Some.ensures.number;
+    named = sym c.in-Some.ensures;
     implements = c.implements.ensures.0 e;
   },
-  λ h. c.implements.ensures.1 (subst (λ r. IsSubtype c.args.self.now c.args.class r) (same_some (sym h.named ∙ sym c.in-Some.ensures.number)) h.implements),
+  λ h. c.implements.ensures.1 (subst (λ r. IsSubtype c.args.self.now c.args.class r) (same_some (sym h.named ∙ sym c.in-Some.ensures)) h.implements),
 )
 
 pub returns-in-None : goal.returns-in-None
-returns-in-None c = (λ e. cc, λ h. absurd (none_some (c.in-None.ensures.number ∙ h.named)))
+returns-in-None c = (λ e. cc, λ h. absurd (none_some (c.in-None.ensures ∙ h.named)))

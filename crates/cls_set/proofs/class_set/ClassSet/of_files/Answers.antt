@@ -1,5 +1,7 @@
-use Rattle.std.proofs.Common.{◌≡◌, ◌≤◌, ◌-◌, List, length, sym, subst, arith}
-use Rattle.std.specs.Prelude.{option_map, slice_get}
+use Rattle.std.proofs.Common.{◌≡◌, ◌≤◌, ◌-◌, List, length, sym, subst, arith, ◌∙◌}
+use Rattle.std.specs.Prelude.{codes, option_map, slice_get}
+use Rattle.std.specs.List.Sorted.{IsStrictlySortedBy}
+use Rattle.cls_order.specs.Classes.{name_cmp, names, number_of}
 use Rattle.std.proofs.lemmas.Result.{err_from_is_err_and}
 use Rattle.cf_reader.specs.declared.class_file.ClassFile.{ClassFile}
 use Rattle.cls_order.specs.declared.fault.SetRule.TheVariants.{TooMany}
@@ -80,6 +82,25 @@ number_classes-requires c =
     let few : length entries ≤ 4096 = few_held files entries of c.in_ok-last.last last (λ some. let low = c.in_ok-refuse_many.ensures.ok some in omega (arith, low)) in
     within_few entries few (are_within entries of.known.resolved)
 
+pub find_number-remote_number-requires-clause-ordered : goal.find_number-remote_number-requires-clause-ordered
+find_number-remote_number-requires-clause-ordered c =
+    let files = c.args.files.items in
+    let entries = c.in_ok-entries.entries.items in
+    let of = c.in_ok-entries.ensures.classes in
+    let before = subst (λ ms. KeepBelow (origins_of ms) (set_rule_number TooMany)) c.as_slice-3.ensures.value c.in_ok-refuse_broken.ensures.ok in
+    let last = subst (λ (fs : List ClassFile). c.in_ok-last.last ≡ option_map (λ (file : ClassFile). file.name) (slice_get fs (length fs - 1))) c.as_slice.ensures.value c.in_ok-last.ensures in
+    let few : length entries ≤ 4096 = few_held files entries of c.in_ok-last.last last (λ some. let low = c.in_ok-refuse_many.ensures.ok some in omega (arith, low)) in
+    let told = subst (λ ms. HaveTables (classes_of ms) c.in_ok-tables.tables.items) c.as_slice-4.ensures.value c.in_ok-tables.ensures in
+    subst (λ ms. IsStrictlySortedBy name_cmp (names (classes_of ms))) (sym (c.deref.ensures.value ∙ c.in_ok-members.ensures)) (are_entries files entries of c.requires before few c.in_ok-tables.tables.items told).set.ordered
+
+pub find_number-remote_number-requires-clause-few : goal.find_number-remote_number-requires-clause-few
+find_number-remote_number-requires-clause-few c =
+    let files = c.args.files.items in
+    let entries = c.in_ok-entries.entries.items in
+    let of = c.in_ok-entries.ensures.classes in
+    let last = subst (λ (fs : List ClassFile). c.in_ok-last.last ≡ option_map (λ (file : ClassFile). file.name) (slice_get fs (length fs - 1))) c.as_slice.ensures.value c.in_ok-last.ensures in
+    subst (λ ms. length ms ≤ 4096) (sym (c.deref.ensures.value ∙ c.in_ok-members.ensures)) (few_held files entries of c.in_ok-last.last last (λ some. let low = c.in_ok-refuse_many.ensures.ok some in omega (arith, low)))
+
 pub invariant_of-result : goal.invariant_of-result
 invariant_of-result c =
     let files = c.args.files.items in
@@ -92,8 +113,9 @@ invariant_of-result c =
     let kept = are_entries files entries of c.requires before few c.in_ok-tables.tables.items told in
     let methods = subst (λ ms. HaveOrders Methods (classes_of ms) c.in_ok-facts.facts.orders.items) c.as_slice-2.ensures.value c.in_ok-facts.ensures.orders in
     let fields = subst (λ ms. HaveOrders Fields (classes_of ms) c.in_ok-fields.fields.items) c.as_slice-5.ensures.value c.in_ok-fields.ensures in
-    subst (λ ms. AreKept ms c.in_ok-tables.tables.items c.in_ok-facts.facts.orders.items c.in_ok-fields.fields.items) (sym c.in_ok-members.ensures)
-    (record { set = kept.set; ranked = kept.ranked; tables = kept.tables; methods = methods; fields = fields })
+    let at = subst (λ ms. c.find_number-remote_number.result ≡ number_of (classes_of ms) (codes "java/rmi/Remote")) (c.deref.ensures.value ∙ c.in_ok-members.ensures) c.find_number-remote_number.ensures.number in
+    subst (λ ms. AreKept ms c.in_ok-tables.tables.items c.in_ok-facts.facts.orders.items c.in_ok-fields.fields.items c.find_number-remote_number.result) (sym c.in_ok-members.ensures)
+    (record { set = kept.set; ranked = kept.ranked; tables = kept.tables; methods = methods; fields = fields; remote = at })
 
 pub returns-clause-set : goal.returns-clause-set
 returns-clause-set c =
