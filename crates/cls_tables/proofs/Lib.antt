@@ -4,4 +4,5 @@ pub mod FieldRows
 pub mod Grown
 pub mod KindRows
 pub mod Numbered
+pub mod RowReads
 pub mod Told

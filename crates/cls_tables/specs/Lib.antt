@@ -4,3 +4,4 @@ pub mod Numbers
 pub mod Slots
 pub mod Trees
 pub mod Remote
+pub mod Rows

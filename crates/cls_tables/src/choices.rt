@@ -8,11 +8,13 @@ ghost use Rattle.cf_reader.specs.declared.class_file.Method.{Method};
 ghost use Rattle.cls_set.specs.Sets.{IsClassSet};
 ghost use Rattle.cls_tables.specs.Choices.{code_of, code_or, own_code, is_static_at, IsAbove, AreKeys, HasChoices, HaveChoices, HaveSome};
 ghost use Rattle.cls_tables.specs.Kinds.{Starts};
+ghost use Rattle.cls_tables.specs.Rows.{AreRows};
 ghost use Rattle.cls_tables.specs.Trees.{find, IsTree};
 
 use super::numbers::{Keys, all_keys};
+use super::rows::all_rows;
 use super::trees::{Node, find, with};
-use cls_link::{ClassId, Flags, Linked, MemberIndex, MethodId};
+use cls_link::{ClassId, Flags, Linked, MemberIndex, MethodId, Row};
 use std::alloc::{AllocError, Global};
 
 // Whether a method is static.
@@ -139,12 +141,15 @@ pub(crate) struct Choices {
     pub(crate) nodes: Vec<Node>,
     // The tree of each class, by class number.
     pub(crate) roots: Vec<u32>,
+    // What the tree of each class has for each method, if there is room for all.
+    pub(crate) rows: Vec<Row<u32>>,
 }
 
 // The trees of all classes.
 pub(crate) fn choose_all(alloc: Global, linked: &Linked) -> Result<Choices, AllocError>
     ensures one_each { IfOk result (λ c. length c.keys.keys.items ≡ length linked.now.methods) }
     ensures choices { IfOk result (λ c. HaveChoices linked.now.classes c.keys.levels c.keys.keys.items c.nodes.items c.roots.items) }
+    ensures rows { IfOk result (λ c. AreRows c.keys.levels c.keys.keys.items c.nodes.items c.roots.items c.rows.items) }
 {
     let keys = all_keys(alloc, linked)?;
     let mut nodes = vec![in alloc; Node { even: 0, odd: 0 }; 1]?;
@@ -154,7 +159,13 @@ pub(crate) fn choose_all(alloc: Global, linked: &Linked) -> Result<Choices, Allo
         let root = choose(linked, &keys, ClassId(number as u16), &mut nodes, &mut memo)?;
         roots.push(root)?;
     }
-    Ok(Choices { keys, nodes, roots })
+    let rows = all_rows(alloc, &nodes, keys.levels, &keys.keys, &roots)?;
+    Ok(Choices {
+        keys,
+        nodes,
+        roots,
+        rows,
+    })
 }
 
 // The method that a tree keeps.
@@ -172,10 +183,24 @@ impl Choices {
     pub(crate) fn chosen(&self, class: ClassId, method: MethodId) -> Option<MethodId>
         requires class { class.0 < length self.now.roots.items }
         requires method { method.0 < length self.now.keys.keys.items }
+        requires rows { AreRows self.now.keys.levels self.now.keys.keys.items self.now.nodes.items self.now.roots.items self.now.rows.items }
         ensures { find self.now.nodes.items self.now.keys.levels (slice_index_or self.now.roots.items class.0 0) (slice_index_or self.now.keys.keys.items method.0 0) ≡ code_of result }
     {
+        method_of(self.code(class, method))
+    }
+
+    // What the tree of a class has for a method.
+    fn code(&self, class: ClassId, method: MethodId) -> u32
+        requires class { class.0 < length self.now.roots.items }
+        requires method { method.0 < length self.now.keys.keys.items }
+        requires rows { AreRows self.now.keys.levels self.now.keys.keys.items self.now.nodes.items self.now.roots.items self.now.rows.items }
+        ensures { result ≡ find self.now.nodes.items self.now.keys.levels (slice_index_or self.now.roots.items class.0 0) (slice_index_or self.now.keys.keys.items method.0 0) }
+    {
+        if let Some(row) = self.rows.get(usize::from(class.0)) {
+            return row.as_slice()[method.0 as usize];
+        }
         let key = self.keys.keys[method.0 as usize];
         let root = self.roots[usize::from(class.0)];
-        method_of(find(&self.nodes, self.keys.levels, root, key))
+        find(&self.nodes, self.keys.levels, root, key)
     }
 }

@@ -9,6 +9,7 @@ mod choices;
 mod kinds;
 mod numbers;
 mod remote;
+mod rows;
 mod slots;
 mod tables;
 mod trees;
