@@ -13,9 +13,10 @@ use Rattle.sp_rules.specs.State.{State}
 use Rattle.sp_tasks.specs.declared.behaviour.Op.{Op}
 use Rattle.sp_lending.specs.Hands.{IsTask}
 use Rattle.sp_lending.specs.Spaces.{AreOf, IsInSome, IsSpace}
-use Rattle.sp_lending.specs.Works.{HasWorked, IsAtWork, IsOwn, IsTurned, state_after}
+use Rattle.sp_lending.specs.Works.{HasWorked, IsAtWork, IsOwn, IsTurned, operations_after, state_after}
 use Rattle.sp_lending.specs.declared.parts.Parts.{Parts}
 use Rattle.sp_lending.specs.declared.task_parts.TaskParts.{TaskParts}
+use Rattle.sp_lending.specs.declared.working.Left.{Left}
 use Rattle.sp_lending.specs.declared.working.Turned.{Turned}
 use Rattle.sp_lending.specs.declared.working.Turned.TheVariants as turned
 
@@ -74,6 +75,10 @@ one-operation g s id n space new task after op w is of same =
       of = of;
       same = same ∙ w.same;
     }
+
+-- a turn that left a task so
+pub left-at : (g : Setting) (s : State) (id n : ℕ) (space : Parts) (task : TaskParts) (r x : Left) → r ≡ x → IsAtWork g s id (operations_after r n) space task → IsAtWork g s id (operations_after x n) space task
+left-at g s id n space task r x is w = subst (λ (y : Left). IsAtWork g s id (operations_after y n) space task) is w
 
 -- ---- it comes back
 

@@ -1,5 +1,5 @@
 -- The work of a task in its space, which keeps it meanwhile: operations on the store, and the event with which it comes back. (This project's own.)
-use Rattle.std.specs.Prelude.{◌≡◌, ◌≤◌, ℕ, Bool, true, false, List, [], ◌∷◌, Result, Ok, Err, length, map}
+use Rattle.std.specs.Prelude.{◌≡◌, ◌≤◌, ℕ, suc, Bool, true, false, List, [], ◌∷◌, Result, Ok, Err, length, map}
 use Rattle.sp_core.specs.Cores.{has_lent}
 use Rattle.sp_events.specs.declared.fault.CoreFault.{CoreFault}
 use Rattle.sp_outputs.specs.Notes.{output_of}
@@ -11,6 +11,8 @@ use Rattle.sp_lending.specs.Hands.{IsTask}
 use Rattle.sp_lending.specs.Spaces.{IsSpace}
 use Rattle.sp_lending.specs.declared.parts.Parts.{Parts}
 use Rattle.sp_lending.specs.declared.task_parts.TaskParts.{TaskParts}
+use Rattle.sp_lending.specs.declared.working.Left.{Left}
+use Rattle.sp_lending.specs.declared.working.Left.TheVariants as left
 use Rattle.sp_lending.specs.declared.working.Turned.{Turned}
 use Rattle.sp_lending.specs.declared.working.Turned.TheVariants as turned
 
@@ -57,6 +59,13 @@ pub record HasWorked (g : Setting) (s : State) (id most : ℕ) (space : Parts) (
   pub returns : IsReturnOf id goes_on last
   pub is : IsSpace g (on g last (state_after g events s)).0 space
   pub answers : outputs ≡ (on g last (state_after g events s)).1
+
+-- how many operations there are at most after a turn that left a task so
+abbrev pub operations_after : Left → ℕ → ℕ
+operations_after left.GoesOn n = suc n
+operations_after left.AtCall n = n
+operations_after left.Ended n = n
+operations_after (left.Refused fault) n = suc n
 
 -- What came of turns: the task is in hand still, or waits or has ended.
 abbrev pub IsTurned : Setting → State → ℕ → ℕ → Parts → Result Turned (TaskParts × CoreFault) → Type 0

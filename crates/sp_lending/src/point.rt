@@ -9,9 +9,8 @@ use sp_tasks::Stand;
 use std::alloc::{AllocError, Global};
 
 // Where a machine stands, if it has ended or asks, and what its slice ends with.
-pub(crate) fn pause(alloc: Global, player: &mut TaskMachine<'_>) -> (Option<Stand>, Pause)
-    ensures known { player.old.ahead ≡ false → IfSome result.0 (StandsIn player.old) }
-    ensures same { player.new ≡ player.old }
+pub(crate) fn pause(alloc: Global, player: &TaskMachine<'_>) -> (Option<Stand>, Pause)
+    ensures { player.now.ahead ≡ false → IfSome result.0 (StandsIn player.now) }
 {
     match point(alloc, player) {
         Ok(at) => at,
@@ -20,9 +19,8 @@ pub(crate) fn pause(alloc: Global, player: &mut TaskMachine<'_>) -> (Option<Stan
 }
 
 // The same, if memory does not run out.
-fn point(alloc: Global, player: &mut TaskMachine<'_>) -> Result<(Option<Stand>, Pause), AllocError>
-    ensures point { IfOk result (λ at. player.old.ahead ≡ false → IfSome at.0 (StandsIn player.old)) }
-    ensures same { player.new ≡ player.old }
+fn point(alloc: Global, player: &TaskMachine<'_>) -> Result<(Option<Stand>, Pause), AllocError>
+    ensures { IfOk result (λ at. player.now.ahead ≡ false → IfSome at.0 (StandsIn player.now)) }
 {
     if let Some(outcome) = player.end(alloc)? {
         return Ok((Some(Stand::HasEnded(outcome)), Pause::Ended));

@@ -108,7 +108,7 @@ impl<'p> TaskParts<'p> {
         let _fuel = self.hand.record().fuel();
         let made = player.run(most);
         self.hand.ran(made);
-        let (stand, pause) = pause(self.home.alloc, &mut player);
+        let (stand, pause) = pause(self.home.alloc, &player);
         self.put_player(player);
         self.put_stand(stand);
         pause

@@ -7,5 +7,6 @@
 pub use task_machine::{Next, TaskMachine};
 pub use telling::refusal;
 
+mod boxed_task;
 mod task_machine;
 mod telling;

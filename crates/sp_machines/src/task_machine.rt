@@ -17,6 +17,7 @@ ghost use Rattle.vm_step.specs.Task.{fuel_left};
 ghost use Rattle.sp_machines.specs.Coming.{IsAskedBy, IsNext};
 ghost use Rattle.sp_machines.specs.Players.{AsksIn, CanCatchUp, IsLevel, IsPlayedBy, WaitsFor, ended_in, end_in};
 
+use crate::boxed_task::BoxedTask;
 use crate::telling;
 use sp_tasks::{Op, Outcome, Record};
 use space_ids::Uuid;
@@ -32,7 +33,7 @@ use vm_step::{Limits, MethodId, Pause, Program, StartFault, Task};
 #[derive(Drop)]
 pub struct TaskMachine<'p> {
     program: &'p Program,
-    task: Task,
+    task: BoxedTask,
     taken: usize,
     is_ahead: bool,
 }
@@ -80,7 +81,7 @@ impl<'p> TaskMachine<'p> {
         match Task::begin(alloc, program, own, method, values, limits) {
             Ok(task) => Ok(TaskMachine {
                 program,
-                task,
+                task: BoxedTask::new(alloc, task)?,
                 taken: 0,
                 is_ahead: false,
             }),
@@ -100,7 +101,7 @@ impl<'p> TaskMachine<'p> {
         let Some(given) = record.reply(self.taken) else {
             return Ok(());
         };
-        let Pause::Ask(asked) = self.task.run(self.program, 0) else {
+        let Pause::Ask(asked) = self.task.pause() else {
             unreachable!()
         };
         let Some(reply) = telling::reply(alloc, &asked, given)? else {
@@ -197,15 +198,14 @@ impl<'p> TaskMachine<'p> {
         requires { AsksIn asked.now self.now.task.state }
         ensures { IfOk result (λ op. (m : Machine) (fuel : ℕ) → self.now.task.state ≡ Waits asked.now m fuel → op_of op ≡ op_at self.now.task.program.classes asked.now m) }
     {
-        telling::op(alloc, self.program, &self.task, asked)
+        telling::op(alloc, self.program, self.task.task(), asked)
     }
 
     /// What it asks for, if it waits for the reply to something.
-    pub fn asked(&mut self) -> Option<Asked>
-        ensures asked { IfSome result (λ asked. AsksIn asked self.old.task.state) }
-        ensures same { self.new ≡ self.old }
+    pub fn asked(&self) -> Option<Asked>
+        ensures { IfSome result (λ asked. AsksIn asked self.now.task.state) }
     {
-        if let Pause::Ask(asked) = self.task.run(self.program, 0) {
+        if let Pause::Ask(asked) = self.task.pause() {
             return Some(asked);
         }
         None

@@ -143,6 +143,17 @@ impl Task {
         }
     }
 
+    /// What the task stands at: what `run` would answer that makes no instruction.
+    pub fn pause(&self) -> Pause
+        ensures { result ≡ pause_at self.now.state }
+    {
+        match &self.phase {
+            Phase::Running(..) => Pause::Turn,
+            Phase::Waiting(_, asked, _) => Pause::Ask(*asked),
+            Phase::Over(..) => Pause::Ended,
+        }
+    }
+
     /// Returns whether the task waits for a reply that this one fits, so that `answer` may be given it.
     pub fn takes(&self, program: &Program, reply: &Reply) -> bool
         ensures { IsTrue result → IsDue program.now.classes reply.now self.now.state }
@@ -198,18 +209,6 @@ impl Task {
             Phase::Running(_, fuel) => *fuel,
             Phase::Waiting(_, _, fuel) => *fuel + 1,
             Phase::Over(_, fuel) => *fuel,
-        }
-    }
-
-    /// Returns how much fuel the call that the task asks for lends to its callee: all but the unit of
-    /// the call itself.
-    pub fn lent(&self) -> u64
-        requires { IsCalling self.now.state }
-        ensures { result + 1 ≡ fuel_left self.now.state }
-    {
-        match &self.phase {
-            Phase::Waiting(_, _, fuel) => *fuel,
-            _ => unreachable!(),
         }
     }
 

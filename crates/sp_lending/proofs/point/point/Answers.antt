@@ -9,8 +9,8 @@ use Rattle.sp_tasks.specs.Behaviours.{outcome_of}
 use Rattle.sp_tasks.specs.declared.behaviour.Outcome.{Outcome}
 use Rattle.sp_lending.proofs.point.point.Goals as goal
 
-pub returns-in-Some-clause-point : goal.returns-in-Some-clause-point
-returns-in-Some-clause-point c = λ abreast links g t level.
+pub returns-in-Some : goal.returns-in-Some
+returns-in-Some c = λ abreast links g t level.
     let p = c.args.player.now in
     (subst (λ (o : Option Outcome). IfSome o (λ outcome. (links : Links) (g : Setting) (t : Living) → IsLevel links g t p → p.ahead ≡ false → stand t.task ≡ HasEnded (outcome_of outcome))) c.in-Some.is c.in_ok-outcome.ensures)
     links g t level abreast

@@ -9,22 +9,22 @@ run-requires c = let k = c.requires.known in record { known = record { setting =
 pub ask-requires-clause-known : goal.ask-requires-clause-known
 ask-requires-clause-known c = let k = c.requires.known in record { setting = k.setting; state = k.state; is = k.is; of = c.run.ensures.of k.setting k.of }
 
-pub returns-in-Turn-clause-turned : goal.returns-in-Turn-clause-turned
-returns-in-Turn-clause-turned c = λ g s id n w.
+pub returns-in-Turn-clause-left : goal.returns-in-Turn-clause-left
+returns-in-Turn-clause-left c = λ g s id n w.
     let space = c.args.self.now in
-    idle-turn g s id n space space c.args.task c.run.new.self w w.is (c.run.ensures.of g w.of) (ap (λ (hand : Hand). hand.id) c.run.ensures.same)
+    idle-turn g s id n space space c.args.task.now c.run.new.self w w.is (c.run.ensures.of g w.of) (ap (λ (hand : Hand). hand.id) c.run.ensures.same)
 
-pub returns-in-Memory-clause-turned : goal.returns-in-Memory-clause-turned
-returns-in-Memory-clause-turned c = λ g s id n w.
+pub returns-in-Memory-clause-left : goal.returns-in-Memory-clause-left
+returns-in-Memory-clause-left c = λ g s id n w.
     let space = c.args.self.now in
-    idle-turn g s id n space space c.args.task c.run.new.self w w.is (c.run.ensures.of g w.of) (ap (λ (hand : Hand). hand.id) c.run.ensures.same)
+    idle-turn g s id n space space c.args.task.now c.run.new.self w w.is (c.run.ensures.of g w.of) (ap (λ (hand : Hand). hand.id) c.run.ensures.same)
 
-pub returns-in-Ended-clause-turned : goal.returns-in-Ended-clause-turned
-returns-in-Ended-clause-turned c = λ g s id n w.
+pub returns-in-Ended-clause-left : goal.returns-in-Ended-clause-left
+returns-in-Ended-clause-left c = λ g s id n w.
     let space = c.args.self.now in
-    c.end.ensures.turned g s id n (at-work-as g s id n space space c.args.task c.run.new.self w w.is (c.run.ensures.of g w.of) (ap (λ (hand : Hand). hand.id) c.run.ensures.same))
+    at-work-as g s id n space space c.args.task.now c.run.new.self w w.is (c.run.ensures.of g w.of) (ap (λ (hand : Hand). hand.id) c.run.ensures.same)
 
-pub returns-in-Asks-clause-turned : goal.returns-in-Asks-clause-turned
-returns-in-Asks-clause-turned c = λ g s id n w.
+pub returns-in-Asks-clause-left : goal.returns-in-Asks-clause-left
+returns-in-Asks-clause-left c = λ g s id n w.
     let space = c.args.self.now in
-    c.ask.ensures.turned g s id n (at-work-as g s id n space space c.args.task c.run.new.self w w.is (c.run.ensures.of g w.of) (ap (λ (hand : Hand). hand.id) c.run.ensures.same))
+    c.ask.ensures.left g s id n (at-work-as g s id n space space c.args.task.now c.run.new.self w w.is (c.run.ensures.of g w.of) (ap (λ (hand : Hand). hand.id) c.run.ensures.same))
