@@ -13,6 +13,7 @@ use crate::{ClientLease, Term};
 use indexmap::IndexMap;
 use space_ids::ForeignId;
 use std::alloc::{AllocError, Global};
+use table_copies::PeerHashes;
 
 /// A lease as it was at the last event of its reference, and how many moments had come by then.
 #[derive(Clone, Copy)]
@@ -25,7 +26,7 @@ pub(crate) struct Kept {
 /// into a lease when the lease is looked at, not when the moment comes.
 #[derive(Drop)]
 pub(crate) struct Leases {
-    references: IndexMap<ForeignId, Kept>,
+    references: IndexMap<ForeignId, Kept, PeerHashes>,
     moment: u64,
     moments: u64,
     ghost timely: { AreTimely moment moments references.entries } by { AreTimely-prop moment moments references.entries },
@@ -48,12 +49,12 @@ impl Leases {
     ghost use Rattle.dgc_client.specs.Table.{leases_of, lease_in};
 
     // No reference was held, at moment 0.
-    pub(crate) fn new(alloc: Global) -> Leases
+    pub(crate) fn new(alloc: Global, hashes: PeerHashes) -> Leases
         ensures leases { leases_of result ≡ [] }
         ensures moment { result.moment ≡ 0 }
     {
         Leases {
-            references: IndexMap::new(alloc),
+            references: IndexMap::with_hasher(alloc, hashes),
             moment: 0,
             moments: 0,
         }
@@ -195,7 +196,7 @@ impl Leases {
 }
 
 // Keeps each lease as it is after `moments` moments, the last of them `moment`, to count from 0.
-fn keep_anew(references: &mut IndexMap<ForeignId, Kept>, moment: u64, moments: u64)
+fn keep_anew(references: &mut IndexMap<ForeignId, Kept, PeerHashes>, moment: u64, moments: u64)
     ensures each { references.new.entries ≡ map (λ entry. (entry.0, kept_anew moment moments entry.1)) references.old.entries }
     ensures room { spare references.new ≡ spare references.old }
 {

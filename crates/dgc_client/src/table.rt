@@ -25,6 +25,7 @@ use crate::{ClientLease, Due, Term};
 use dgc_index::{Plans, Touched, sorted, up_to};
 use space_ids::{ForeignId, ObjId};
 use std::alloc::{AllocError, Global};
+use table_copies::PeerHashes;
 use uuid::Uuid;
 
 /// All foreign references of a space, in the order in which they were first held.
@@ -50,12 +51,20 @@ impl Clients {
     ghost use Rattle.dgc_client.specs.Table.{Told, IsAfter, room, references_in, made_each, own, held, is_among, numbers_of, told, made, sent, due_of, IsSound, is_known, Puts};
     ghost use Rattle.dgc_client.specs.Table.Told.{On, At};
 
-    /// Returns the leases of no references, at moment 0; no number was given.
+    /// Returns the leases of no references, at moment 0; no number was given. It hashes references in the same way in
+    /// each run.
     pub fn new(alloc: Global) -> Clients
         ensures { IsAfter [] result }
     {
+        Clients::with_hashes(alloc, PeerHashes::Fixed)
+    }
+
+    /// Returns the leases of no references, at moment 0; no number was given. It hashes references in this way.
+    pub fn with_hashes(alloc: Global, hashes: PeerHashes) -> Clients
+        ensures { IsAfter [] result }
+    {
         Clients {
-            leases: Leases::new(alloc),
+            leases: Leases::new(alloc, hashes),
             touched: Touched::new(alloc),
             later: Touched::new(alloc),
             plans: Plans::new(alloc),

@@ -11,7 +11,7 @@ use crate::few::Few;
 use crate::many::Many;
 use std::alloc::{AllocError, Global};
 use std::marker::Model;
-use table_copies::CopyIn;
+use table_copies::{CopyIn, PeerHashes};
 use uuid::Uuid;
 
 /// The clients that are remembered of one object. Those with an entry are in the order in which the
@@ -110,26 +110,31 @@ impl Clients {
     }
 
     // Makes room for the client. That nothing is remembered of it stays so.
-    pub(crate) fn add(&mut self, client: &Uuid, alloc: Global) -> Result<(), AllocError>
+    pub(crate) fn add(
+        &mut self,
+        client: &Uuid,
+        alloc: Global,
+        hashes: PeerHashes,
+    ) -> Result<(), AllocError>
         ensures known { OnOk result (IsTrue (is_known self.new client.now)) }
         ensures same { IsSame self.old self.new }
     {
         if self.find(client).is_some() {
             return Ok(());
         }
-        self.widen(alloc)?;
+        self.widen(alloc, hashes)?;
         self.push(client, Remembered::BLANK)?;
         Ok(())
     }
 
     // Makes a hash map of a row that is to get no longer.
-    fn widen(&mut self, alloc: Global) -> Result<(), AllocError>
+    fn widen(&mut self, alloc: Global, hashes: PeerHashes) -> Result<(), AllocError>
         ensures { self.new ≡ self.old }
     {
         if let Form::Few(few) = &self.form
             && few.is_full()
         {
-            let many = Box::new(alloc, few.to_many()?)?;
+            let many = Box::new(alloc, few.to_many(hashes)?)?;
             self.form = Form::Many(many);
         }
         Ok(())

@@ -10,6 +10,7 @@ use crate::Remembered;
 use crate::many::Many;
 use std::alloc::{AllocError, Global};
 use std::marker::Model;
+use table_copies::PeerHashes;
 use uuid::Uuid;
 
 /// So many clients stand in a row. With one more a hash map takes less than 250 bytes for each of them.
@@ -56,10 +57,10 @@ impl Few {
     }
 
     // The same clients in a hash map.
-    pub(crate) fn to_many(&self) -> Result<Many, AllocError>
+    pub(crate) fn to_many(&self, hashes: PeerHashes) -> Result<Many, AllocError>
         ensures { IfOk result (λ many. many ≡ self.now) }
     {
-        Many::from_rows(*self.rows.allocator(), self.rows.as_slice())
+        Many::from_rows(*self.rows.allocator(), hashes, self.rows.as_slice())
     }
 
     pub(crate) fn is_empty(&self) -> bool

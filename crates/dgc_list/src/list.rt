@@ -8,6 +8,7 @@ use crate::expiries::Expiries;
 use crate::objects::Objects;
 use space_ids::ObjId;
 use std::alloc::{AllocError, Global};
+use table_copies::PeerHashes;
 use uuid::Uuid;
 
 /// The longest period that a lease is granted for, in milliseconds (ten minutes, as is the default of
@@ -31,12 +32,19 @@ impl RefList {
     ghost use Rattle.dgc_list.specs.History.{Call, granted, remembered_of, clients_of, HasRoomForClean, HasRoomForDirty, HasNoRoom, IsAfter};
     ghost use Rattle.dgc_list.specs.History.Call.{Dirty, Clean, Moment, Forget};
 
-    /// Returns reference lists after no call, at moment 0.
+    /// Returns reference lists after no call, at moment 0, which hash clients in the same way in each run.
     pub fn new(alloc: Global) -> RefList
         ensures { IsAfter [] result }
     {
+        RefList::with_hashes(alloc, PeerHashes::Fixed)
+    }
+
+    /// Returns reference lists after no call, at moment 0, which hash clients in this way.
+    pub fn with_hashes(alloc: Global, hashes: PeerHashes) -> RefList
+        ensures { IsAfter [] result }
+    {
         RefList {
-            objects: Objects::new(alloc),
+            objects: Objects::new(alloc, hashes),
             expiries: Expiries::new(alloc),
             moment: 0,
         }

@@ -11,14 +11,15 @@ use crate::Remembered;
 use lru::LruCache;
 use std::alloc::{AllocError, Global};
 use std::marker::Model;
-use table_copies::copy_cache;
+use table_copies::{PeerHashes, copy_cache};
 use uuid::Uuid;
 
 /// Clients of an object in a hash map. A list through its entries keeps their order, so a client comes and
 /// goes at a cost that does not depend on how many there are.
 #[derive(Drop)]
 pub(crate) struct Many {
-    remembered: LruCache<Uuid, Remembered>,
+    remembered: LruCache<Uuid, Remembered, PeerHashes>,
+    hashes: PeerHashes,
 }
 
 impl Model for Many {
@@ -39,20 +40,25 @@ impl Model for Many {
 }
 
 impl Many {
-    fn new(alloc: Global) -> Result<Many, AllocError>
+    fn new(alloc: Global, hashes: PeerHashes) -> Result<Many, AllocError>
         ensures { IfOk result (λ many. many ≡ []) }
     {
         Ok(Many {
-            remembered: LruCache::unbounded(alloc)?,
+            remembered: LruCache::unbounded_with_hasher(alloc, hashes)?,
+            hashes,
         })
     }
 
     // The clients of a row.
-    pub(crate) fn from_rows(alloc: Global, rows: &[(Uuid, Remembered)]) -> Result<Many, AllocError>
+    pub(crate) fn from_rows(
+        alloc: Global,
+        hashes: PeerHashes,
+        rows: &[(Uuid, Remembered)],
+    ) -> Result<Many, AllocError>
         requires { IsDistinct bytes_eq (keys_of rows.now) }
         ensures { IfOk result (λ many. many ≡ rows.now) }
     {
-        let mut many = Many::new(alloc)?;
+        let mut many = Many::new(alloc, hashes)?;
         for row in rows {
             many.push(&row.0, row.1)?;
         }
@@ -64,7 +70,8 @@ impl Many {
         ensures { IfOk result (λ copy. copy ≡ self.now) }
     {
         Ok(Many {
-            remembered: copy_cache(&self.remembered)?,
+            remembered: copy_cache(&self.remembered, self.hashes)?,
+            hashes: self.hashes,
         })
     }
 

@@ -13,13 +13,15 @@ use indexmap::IndexMap;
 use space_ids::ObjId;
 use std::alloc::{AllocError, Global};
 use std::marker::Model;
-use table_copies::{NumberHashes, copy_map};
+use table_copies::{NumberHashes, PeerHashes, copy_map};
 use uuid::Uuid;
 
 /// The objects of which clients are remembered, with those clients.
 #[derive(Drop)]
 pub(crate) struct Objects {
     lists: IndexMap<ObjId, Clients, NumberHashes>,
+    // How the clients of an object that has many are hashed.
+    hashes: PeerHashes,
 }
 
 impl Model for Objects {
@@ -33,11 +35,12 @@ impl Model for Objects {
 }
 
 impl Objects {
-    pub(crate) fn new(alloc: Global) -> Objects
+    pub(crate) fn new(alloc: Global, hashes: PeerHashes) -> Objects
         ensures { result ≡ [] }
     {
         Objects {
             lists: IndexMap::with_hasher(alloc, NumberHashes::new()),
+            hashes,
         }
     }
 
@@ -47,6 +50,7 @@ impl Objects {
     {
         Ok(Objects {
             lists: copy_map(&self.lists)?,
+            hashes: self.hashes,
         })
     }
 
@@ -77,7 +81,7 @@ impl Objects {
         self.add_object(object)?;
         let alloc = *self.lists.allocator();
         match self.lists.get_mut(&object) {
-            Some(clients) => clients.add(client, alloc),
+            Some(clients) => clients.add(client, alloc, self.hashes),
             None => unreachable!(),
         }
     }

@@ -5,7 +5,6 @@ ghost use Rattle.sp_rules.specs.Classes.{Setting};
 ghost use Rattle.sp_rules.specs.State.{State};
 
 use crate::SpaceCore;
-use sp_holders::Sightings;
 use std::alloc::AllocError;
 
 impl SpaceCore {
@@ -25,7 +24,7 @@ impl SpaceCore {
             fuel: self.fuel,
             state,
             spare: None,
-            sightings: Sightings::new(self.alloc),
+            sightings: self.sightings.emptied(),
         })
     }
 }

@@ -11,6 +11,7 @@ use sp_holders::Sightings;
 use sp_state::SpaceState;
 use space_ids::Uuid;
 use std::alloc::{AllocError, Global};
+use table_copies::PeerHashes;
 
 // Moments stay below this one, and a space whose numbers have come to it is worn out.
 pub(crate) const END: u64 = 1 << 63;
@@ -35,7 +36,9 @@ impl SpaceCore {
     ghost use Rattle.sp_core.specs.Cores.{IsCore};
 
     /// The core of the space of this id, over class files of this digest, whose roots start with at most this
-    /// fuel, and which speaks this version of the protocol at most. Nothing has happened to it.
+    /// fuel, and which speaks this version of the protocol at most. Nothing has happened to it. What peers pick, such as
+    /// ids of objects, is hashed in the same way in each run: where strangers reach the space, use
+    /// [`with_hashes`](SpaceCore::with_hashes).
     pub fn new(
         alloc: Global,
         id: Uuid,
@@ -46,7 +49,22 @@ impl SpaceCore {
         ensures { IfOk result (λ core. (g : Setting) → g.id ≡ id → g.digest ≡ digest
             → g.limits.fuel ≡ fuel → g.version ≡ version → IsCore g opening core) }
     {
-        let first = SpaceState::new(alloc, id, version, digest)?;
+        SpaceCore::with_hashes(alloc, id, digest, fuel, version, PeerHashes::Fixed)
+    }
+
+    /// The same, but that what peers pick is hashed in this way.
+    pub fn with_hashes(
+        alloc: Global,
+        id: Uuid,
+        digest: Digest,
+        fuel: u64,
+        version: u8,
+        hashes: PeerHashes,
+    ) -> Result<SpaceCore, AllocError>
+        ensures { IfOk result (λ core. (g : Setting) → g.id ≡ id → g.digest ≡ digest
+            → g.limits.fuel ≡ fuel → g.version ≡ version → IsCore g opening core) }
+    {
+        let first = SpaceState::new(alloc, id, version, digest, hashes)?;
         let state = BoxedState::new(alloc, first)?;
         Ok(SpaceCore {
             alloc,
@@ -54,7 +72,7 @@ impl SpaceCore {
             fuel,
             state,
             spare: None,
-            sightings: Sightings::new(alloc),
+            sightings: Sightings::new(alloc, hashes),
         })
     }
 

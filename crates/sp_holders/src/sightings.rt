@@ -15,6 +15,7 @@ use sp_state::SpaceState;
 use sp_tasks::Outcome;
 use space_ids::{ClassId, ForeignId, Ref, Value};
 use std::alloc::Global;
+use table_copies::PeerHashes;
 
 /// Where a space saw references held, and the calls whose results may wait for their Ack and be references.
 ///
@@ -24,7 +25,7 @@ use std::alloc::Global;
 #[derive(Drop)]
 pub struct Sightings {
     calls: Vec<CallKey>,
-    rows: IndexMap<ForeignId, Sighting>,
+    rows: IndexMap<ForeignId, Sighting, PeerHashes>,
 }
 
 // Who was seen to hold a reference, under this class.
@@ -35,12 +36,17 @@ struct Sighting {
 }
 
 impl Sightings {
-    /// Nothing was seen.
-    pub fn new(alloc: Global) -> Sightings {
+    /// Nothing was seen. References are hashed in this way.
+    pub fn new(alloc: Global, hashes: PeerHashes) -> Sightings {
         Sightings {
             calls: Vec::new(alloc),
-            rows: IndexMap::new(alloc),
+            rows: IndexMap::with_hasher(alloc, hashes),
         }
+    }
+
+    /// Nothing was seen, for a copy of the space. References are hashed as here.
+    pub fn emptied(&self) -> Sightings {
+        Sightings::new(*self.rows.allocator(), *self.rows.hasher())
     }
 
     /// Keeps a call whose result may wait for its Ack and be a reference. Those whose results went are

@@ -15,6 +15,7 @@ use sp_call_set::CallSet;
 use sp_core::SpaceCore;
 use space_ids::Uuid;
 use std::alloc::{AllocError, Global};
+use table_copies::PeerHashes;
 use vm_step::{Limits, Program};
 
 /// What a lending space is made of: its core, the machines that are not out, and the class set that they run.
@@ -27,7 +28,7 @@ pub(crate) struct Parts<'p> {
 }
 
 impl<'p> Parts<'p> {
-    /// The parts of a new space, which speaks this version of the protocol at most.
+    /// The parts of a new space, which speaks this version of the protocol at most, and hashes what peers pick in this way.
     pub(crate) fn new(
         alloc: Global,
         program: &'p Program,
@@ -36,6 +37,7 @@ impl<'p> Parts<'p> {
         id: Uuid,
         limits: Limits,
         version: u8,
+        hashes: PeerHashes,
     ) -> Result<Parts<'p>, AllocError>
         requires classes { classes.now ≡ program.now }
         requires rules { AreRemoteRules program.now.classes }
@@ -54,7 +56,7 @@ impl<'p> Parts<'p> {
                 program,
             },
             classes,
-            core: SpaceCore::new(alloc, id, digest, limits.fuel, version)?,
+            core: SpaceCore::with_hashes(alloc, id, digest, limits.fuel, version, hashes)?,
             rows: Rows::new(alloc),
         })
     }

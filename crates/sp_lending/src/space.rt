@@ -18,6 +18,7 @@ use sp_history::Setup;
 use space_ids::Uuid;
 use std::alloc::{AllocError, Global};
 use std::marker::{Model, PhantomData};
+use table_copies::PeerHashes;
 use vm_step::{Limits, Program};
 
 /// A space that lends its tasks: its core, the machines of the living tasks that are not out, and the class set
@@ -50,7 +51,7 @@ impl<'p, N: Setup> Model for LendingSpace<'p, N> {
 
 impl<'p, N: Setup> LendingSpace<'p, N> {
     /// The space of this id, whose tasks run methods of this program within these limits, and which speaks this
-    /// version of the protocol at most. Nothing has happened to it. The remote classes and interfaces of the
+    /// version of the protocol at most. Nothing has happened to it. What peers pick is hashed in this way. The remote classes and interfaces of the
     /// program keep the rules on them, as those of each set of class files do that breaks none.
     pub fn new(
         alloc: Global,
@@ -60,6 +61,7 @@ impl<'p, N: Setup> LendingSpace<'p, N> {
         id: Uuid,
         limits: Limits,
         version: u8,
+        hashes: PeerHashes,
     ) -> Result<LendingSpace<'p, N>, AllocError>
         requires classes { classes.now ≡ program.now }
         requires rules { AreRemoteRules program.now.classes }
@@ -73,7 +75,7 @@ impl<'p, N: Setup> LendingSpace<'p, N> {
             → IsSpace g opening space) }
     {
         Ok(LendingSpace {
-            parts: Parts::new(alloc, program, classes, digest, id, limits, version)?,
+            parts: Parts::new(alloc, program, classes, digest, id, limits, version, hashes)?,
             name: PhantomData,
         })
     }

@@ -13,6 +13,7 @@ use sp_tasks::Tasks;
 use sp_transport::Transport;
 use space_ids::Uuid;
 use std::alloc::{AllocError, Global};
+use table_copies::PeerHashes;
 
 /// What lives in a space: its tasks, the results that it holds, the frames that wait for leases, and its
 /// side of the transport.
@@ -36,8 +37,8 @@ impl Living {
     ghost use Rattle.sp_living.specs.Livings.{IsLiving};
     ghost use Rattle.sp_living.specs.Parts.{AreParkedIn, AreTasks};
 
-    /// Nothing lives in the space of this id.
-    pub fn new(alloc: Global, id: Uuid) -> Result<Living, AllocError>
+    /// Nothing lives in the space of this id. What peers pick is hashed in this way.
+    pub fn new(alloc: Global, id: Uuid, hashes: PeerHashes) -> Result<Living, AllocError>
         ensures { IfOk result (λ living. (g : Setting) → g.id ≡ id → IsLiving g opening living) }
     {
         Ok(Living {
@@ -46,9 +47,9 @@ impl Living {
             moment: 0,
             tasks: Tasks::new(alloc),
             results: Results::new(alloc)?,
-            call_results: CallResults::new(alloc),
-            parked: Parked::new(alloc),
-            transport: Transport::new(alloc),
+            call_results: CallResults::new(alloc, hashes),
+            parked: Parked::new(alloc, hashes),
+            transport: Transport::new(alloc, hashes),
         })
     }
 

@@ -17,6 +17,7 @@ use sp_registry::Registry;
 use sp_store::Store;
 use space_ids::{ClassId, ObjId, Ref, Uuid, Value};
 use std::alloc::{AllocError, Global};
+use table_copies::PeerHashes;
 
 /// What a space keeps for others: its remote objects, the names that are bound to them, and what its
 /// clients told of them.
@@ -34,8 +35,8 @@ pub struct Owner {
 impl Owner {
     ghost use Rattle.sp_owner.specs.Owners.{IsOwner};
 
-    /// The space of this id has no object yet, and no name is bound.
-    pub fn new(alloc: Global, id: Uuid) -> Result<Owner, AllocError>
+    /// The space of this id has no object yet, and no name is bound. Clients are hashed in this way.
+    pub fn new(alloc: Global, id: Uuid, hashes: PeerHashes) -> Result<Owner, AllocError>
         ensures { IfOk result (λ owner. (g : Setting) → g.id ≡ id → IsOwner g opening owner) }
     {
         Ok(Owner {
@@ -43,7 +44,7 @@ impl Owner {
             id,
             store: Store::new(alloc, id),
             names: Registry::new(alloc)?,
-            entries: RefList::new(alloc),
+            entries: RefList::with_hashes(alloc, hashes),
         })
     }
 

@@ -10,7 +10,7 @@ use indexmap::IndexMap;
 use rising_map::RisingMap;
 use space_ids::ForeignId;
 use std::alloc::{AllocError, Global};
-use table_copies::copy_map;
+use table_copies::{PeerHashes, copy_map};
 
 /// The tickets of the frames that name a reference, by the references, in the order in which they came. A
 /// ticket comes and goes at a cost that does not depend on how many there are.
@@ -19,19 +19,19 @@ use table_copies::copy_map;
 #[derive(Drop)]
 pub(crate) struct ByReference {
     alloc: Global,
-    tickets: IndexMap<ForeignId, RisingMap<()>>,
+    tickets: IndexMap<ForeignId, RisingMap<()>, PeerHashes>,
 }
 
 impl ByReference {
     ghost use Rattle.sp_parked.specs.ByReferences.{AreTickets, room_at, with_ticket, with_tickets, without_ticket, without_tickets};
 
-    // No reference has a ticket.
-    pub(crate) fn new(alloc: Global) -> ByReference
+    // No reference has a ticket. References are hashed in this way.
+    pub(crate) fn new(alloc: Global, hashes: PeerHashes) -> ByReference
         ensures { AreTickets (λ _. []) result }
     {
         ByReference {
             alloc,
-            tickets: IndexMap::new(alloc),
+            tickets: IndexMap::with_hasher(alloc, hashes),
         }
     }
 

@@ -13,6 +13,7 @@ use crate::by_reference::ByReference;
 use rising_map::RisingMap;
 use space_ids::ForeignId;
 use std::alloc::{AllocError, Global};
+use table_copies::PeerHashes;
 
 // Tickets begin above this one.
 const NO_TICKET: u64 = 0;
@@ -33,14 +34,14 @@ pub struct Parked {
 impl Parked {
     ghost use Rattle.sp_parked.specs.Parkings.{AreParked, HasRoom, last_ticket, naming, on_connection};
 
-    /// No frame waits.
-    pub fn new(alloc: Global) -> Parked
+    /// No frame waits. References are hashed in this way.
+    pub fn new(alloc: Global, hashes: PeerHashes) -> Parked
         ensures frames { AreParked [] result }
         ensures last { last_ticket result ≡ 0 }
     {
         Parked {
             frames: RisingMap::new(alloc),
-            by_reference: ByReference::new(alloc),
+            by_reference: ByReference::new(alloc, hashes),
             by_connection: ByConnection::new(alloc),
             last: 0,
         }

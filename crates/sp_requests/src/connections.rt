@@ -9,7 +9,7 @@ use crate::{Connection, Link};
 use indexmap::IndexMap;
 use space_ids::Uuid;
 use std::alloc::{AllocError, Global};
-use table_copies::NumberHashes;
+use table_copies::{NumberHashes, PeerHashes};
 
 /// The open connections of a space by number, and by peer those that it dialled; and the peers that it
 /// dialled and that neither opened nor refused.
@@ -18,19 +18,19 @@ use table_copies::NumberHashes;
 #[derive(Drop)]
 pub struct Connections {
     rows: IndexMap<u64, Connection, NumberHashes>,
-    links: IndexMap<Uuid, Link>,
+    links: IndexMap<Uuid, Link, PeerHashes>,
 }
 
 impl Connections {
     ghost use Rattle.sp_requests.specs.Tables.{AreConnections, dialled_once, is_dialled, link_of, no_more, numbered, opened, peer_room, room, seen, to_peer};
 
-    /// No connection is open, and no peer dialled.
-    pub fn new(alloc: Global) -> Connections
+    /// No connection is open, and no peer dialled. Peers are hashed in this way.
+    pub fn new(alloc: Global, hashes: PeerHashes) -> Connections
         ensures { AreConnections [] [] result }
     {
         Connections {
             rows: IndexMap::with_hasher(alloc, NumberHashes::new()),
-            links: IndexMap::new(alloc),
+            links: IndexMap::with_hasher(alloc, hashes),
         }
     }
 

@@ -8,12 +8,13 @@ use indexmap::IndexSet;
 use space_ids::Uuid;
 use std::alloc::{AllocError, Global};
 use std::marker::Model;
+use table_copies::PeerHashes;
 
 /// The peers that a space found to speak version 1 alone. It says Hello to them with version 1. A contract sees
 /// a list of them.
 #[derive(Drop)]
 pub struct NotedPeers {
-    peers: IndexSet<Uuid>,
+    peers: IndexSet<Uuid, PeerHashes>,
 }
 
 impl Model for NotedPeers {
@@ -26,12 +27,12 @@ impl Model for NotedPeers {
 }
 
 impl NotedPeers {
-    /// No peer was found to.
-    pub fn new(alloc: Global) -> NotedPeers
+    /// No peer was found to. Peers are hashed in this way.
+    pub fn new(alloc: Global, hashes: PeerHashes) -> NotedPeers
         ensures { result ≡ [] }
     {
         NotedPeers {
-            peers: IndexSet::new(alloc),
+            peers: IndexSet::with_hasher(alloc, hashes),
         }
     }
 
@@ -40,7 +41,7 @@ impl NotedPeers {
         ensures { IfOk result (λ copy. (peer : Peer)
             → is_among copy peer ≡ is_among self.now peer) }
     {
-        let mut copy = NotedPeers::new(*self.peers.allocator());
+        let mut copy = NotedPeers::new(*self.peers.allocator(), *self.peers.hasher());
         for peer in self.peers.as_slice() {
             copy.insert(peer)?;
         }

@@ -18,6 +18,7 @@ use rising_map::RisingMap;
 use sp_store::IdSet;
 use space_ids::{Ref, Uuid, Value, is_among};
 use std::alloc::{AllocError, Global};
+use table_copies::PeerHashes;
 
 // How long a result is held after the last moment of its connection, in milliseconds.
 const HELD: u64 = 600_000;
@@ -41,14 +42,14 @@ pub struct CallResults {
 impl CallResults {
     ghost use Rattle.sp_results.specs.Held.{AreCallResults, AreTicketed, HasRoom, HasRoomToEnd, acked_row, is_named_in, left_at, left_by_ack, of_calls, references_found, references_of_results, with_acked};
 
-    /// No result is held.
-    pub fn new(alloc: Global) -> CallResults
+    /// No result is held. The numbers of calls are hashed in this way.
+    pub fn new(alloc: Global, hashes: PeerHashes) -> CallResults
         ensures { (moment : ℕ) → AreCallResults moment [] result }
     {
         CallResults {
             alloc,
             values: RisingMap::new(alloc),
-            unacknowledged: Unacknowledged::new(alloc),
+            unacknowledged: Unacknowledged::new(alloc, hashes),
             orphans: Orphans::new(alloc),
             last: 0,
         }

@@ -11,7 +11,7 @@ use sp_store::IdSet;
 use space_ids::{Ref, Uuid, Value};
 use std::alloc::{AllocError, Global};
 use std::marker::Model;
-use table_copies::copy_cache;
+use table_copies::{NumberHashes, copy_cache};
 
 /// The results that wait to be acknowledged, by the tasks whose they are. A list through the entries of
 /// a hash map keeps their order, so a result comes and goes at a cost that does not depend on how many
@@ -20,7 +20,7 @@ use table_copies::copy_cache;
 /// A contract sees the list of the tasks with their results, in the order in which these came.
 #[derive(Drop)]
 pub struct Results {
-    results: LruCache<u64, Option<Value>>,
+    results: LruCache<u64, Option<Value>, NumberHashes>,
 }
 
 impl Model for Results {
@@ -42,7 +42,7 @@ impl Results {
         ensures { IfOk result (λ waiting. waiting ≡ []) }
     {
         Ok(Results {
-            results: LruCache::unbounded(alloc)?,
+            results: LruCache::unbounded_with_hasher(alloc, NumberHashes::new())?,
         })
     }
 
@@ -51,7 +51,7 @@ impl Results {
         ensures copied { IfOk result (λ copy. copy ≡ self.now) }
     {
         Ok(Results {
-            results: copy_cache(&self.results)?,
+            results: copy_cache(&self.results, NumberHashes::new())?,
         })
     }
 

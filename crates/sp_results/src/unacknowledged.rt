@@ -5,12 +5,12 @@ ghost use Rattle.std.specs.Map.{lookup};
 
 use indexmap::IndexMap;
 use std::alloc::{AllocError, Global};
-use table_copies::{CopyIn, NumberHashes, copy_map};
+use table_copies::{CopyIn, NumberHashes, PeerHashes, copy_map};
 
 /// The tickets of the results of one connection that wait for an Ack, by the numbers of the calls.
 #[derive(Drop)]
 pub(crate) struct Numbers {
-    pub(crate) tickets: IndexMap<u64, u64, NumberHashes>,
+    pub(crate) tickets: IndexMap<u64, u64, PeerHashes>,
 }
 
 impl CopyIn for Numbers {
@@ -30,6 +30,8 @@ impl CopyIn for Numbers {
 #[derive(Drop)]
 pub(crate) struct Unacknowledged {
     alloc: Global,
+    // How the numbers of calls are hashed, which peers pick.
+    hashes: PeerHashes,
     numbers: IndexMap<u64, Numbers, NumberHashes>,
 }
 
@@ -37,11 +39,12 @@ impl Unacknowledged {
     ghost use Rattle.sp_results.specs.Numbers.{AreTickets, count_at, room_at, with_number, without_connection, without_number};
 
     // No connection has a ticket.
-    pub(crate) fn new(alloc: Global) -> Unacknowledged
+    pub(crate) fn new(alloc: Global, hashes: PeerHashes) -> Unacknowledged
         ensures { AreTickets (λ _. []) result }
     {
         Unacknowledged {
             alloc,
+            hashes,
             numbers: IndexMap::with_hasher(alloc, NumberHashes::new()),
         }
     }
@@ -52,6 +55,7 @@ impl Unacknowledged {
     {
         Ok(Unacknowledged {
             alloc: self.alloc,
+            hashes: self.hashes,
             numbers: copy_map(&self.numbers)?,
         })
     }
@@ -81,7 +85,7 @@ impl Unacknowledged {
         match self.numbers.get_index_of(&conn) {
             Some(index) => self.numbers[index].tickets.reserve(1),
             None => {
-                let mut tickets = IndexMap::with_hasher(self.alloc, NumberHashes::new());
+                let mut tickets = IndexMap::with_hasher(self.alloc, self.hashes);
                 tickets.reserve(1)?;
                 self.numbers.insert(conn, Numbers { tickets })?;
                 Ok(())

@@ -21,9 +21,11 @@ use sp_texts::{Report, Status, folder_report, refusal_report, text_report, write
 use sp_words::Folder;
 use space_ids::Uuid;
 use std::alloc::{AllocError, Global};
+use std::hash::RandomState;
 use std::io::{BufRead, Write};
 use std::marker::Brand;
 use std::random::RandomSource;
+use table_copies::PeerHashes;
 use vm_step::{Limits, Program};
 
 /// Does what the words ask for, of which the first is `serve` or `call`: serves a space until the input ends, or makes
@@ -157,10 +159,12 @@ fn over_classes<R: Host + RandomSource, I: BufRead, O: Write + Send + Drop, E: W
 ) -> u8
     requires rules { AreRemoteRules program.now.classes }
 {
-    let Some(id) = id_of(rt, request) else {
+    let (Some(id), Ok(state)) = (id_of(rt, request), RandomState::new(rt)) else {
         let _ = writeln!(err, "error: the system has no random bytes");
         return Status::Failed.code();
     };
+    // Strangers may pick the ids of objects, of spaces and of calls that come.
+    let hashes = PeerHashes::Random(state);
     let Ok(classes) = CallSet::new(rt.alloc(), program) else {
         return no_memory(&mut out, err);
     };
@@ -170,7 +174,8 @@ fn over_classes<R: Host + RandomSource, I: BufRead, O: Write + Send + Drop, E: W
     };
     let version = version_of(&request.aim);
     over_setting::<Brand, R, I, O, E>(
-        rt, request, program, &classes, digest, id, limits, version, methods, input, out, err,
+        rt, request, program, &classes, digest, id, limits, version, hashes, methods, input, out,
+        err,
     )
 }
 
@@ -184,6 +189,7 @@ fn over_setting<'p, N: Setup + Send, R: Host, I: BufRead, O: Write + Send + Drop
     id: Uuid,
     limits: Limits,
     version: u8,
+    hashes: PeerHashes,
     methods: &[String],
     input: &mut I,
     mut out: O,
@@ -197,7 +203,16 @@ fn over_setting<'p, N: Setup + Send, R: Host, I: BufRead, O: Write + Send + Drop
     requires limits { AreLimits N.setting limits }
     requires version { N.setting.version ≡ version }
 {
-    match ServedSpace::<'p, N>::new(rt.alloc(), program, classes, digest, id, limits, version) {
+    match ServedSpace::<'p, N>::new(
+        rt.alloc(),
+        program,
+        classes,
+        digest,
+        id,
+        limits,
+        version,
+        hashes,
+    ) {
         Ok(space) => run_space(rt, &request.aim, methods, space, input, out, err),
         Err(_) => no_memory(&mut out, err),
     }

@@ -16,6 +16,7 @@ use sp_lending::{LendingSpace, Task, Worked};
 use sp_world::{CoreFault, Event, Output};
 use space_ids::{ClassId, Uuid, Value};
 use std::alloc::{AllocError, Global};
+use table_copies::PeerHashes;
 use vm_step::{Limits, Program};
 
 /// A space that is served, with the program that its tasks run.
@@ -27,7 +28,7 @@ pub struct ServedSpace<'p, N: Setup> {
 
 impl<'p, N: Setup> ServedSpace<'p, N> {
     /// The space of this id, over class files of this digest, to which nothing has happened, whose tasks keep within
-    /// these limits, and which speaks this version of the protocol at most. The class set is that of the program,
+    /// these limits, and which speaks this version of the protocol at most. What peers pick is hashed in this way. The class set is that of the program,
     /// whose remote classes and interfaces keep the rules on them. `AllocError` if memory runs out.
     pub fn new(
         alloc: Global,
@@ -37,6 +38,7 @@ impl<'p, N: Setup> ServedSpace<'p, N> {
         id: Uuid,
         limits: Limits,
         version: u8,
+        hashes: PeerHashes,
     ) -> Result<ServedSpace<'p, N>, AllocError>
         requires classes { classes.now ≡ program.now }
         requires rules { AreRemoteRules program.now.classes }
@@ -48,7 +50,7 @@ impl<'p, N: Setup> ServedSpace<'p, N> {
     {
         Ok(ServedSpace {
             alloc,
-            space: LendingSpace::new(alloc, program, classes, digest, id, limits, version)?,
+            space: LendingSpace::new(alloc, program, classes, digest, id, limits, version, hashes)?,
         })
     }
 }

@@ -12,6 +12,7 @@ use sp_outputs::Output;
 use sp_owner::Owner;
 use space_ids::Uuid;
 use std::alloc::{AllocError, Global};
+use table_copies::PeerHashes;
 
 /// The state of a space: what it keeps for others, and what lives in it; its id, the version of the protocol that
 /// it speaks at most, and the digest of its class files. A contract names the states of the rules that the value
@@ -34,16 +35,18 @@ impl SpaceState {
     ghost use Rattle.sp_transport.specs.Settling.{MaySettle};
 
     /// The space of this id, which speaks this version at most, over class files of this digest, as it begins.
+    /// What peers pick is hashed in this way.
     pub fn new(
         alloc: Global,
         id: Uuid,
         version: u8,
         digest: Digest,
+        hashes: PeerHashes,
     ) -> Result<SpaceState, AllocError>
         ensures { IfOk result (λ space. (g : Setting) → g.id ≡ id → g.version ≡ version → g.digest ≡ digest → IsSpace g opening space) }
     {
-        let owner = Owner::new(alloc, id)?;
-        let living = Living::new(alloc, id)?;
+        let owner = Owner::new(alloc, id, hashes)?;
+        let living = Living::new(alloc, id, hashes)?;
         Ok(SpaceState {
             alloc,
             id,

@@ -14,6 +14,7 @@ use sp_outputs::Outputs;
 use sp_requests::{Asked, Connection, Connections, Link, NotedPeers, Peers};
 use space_ids::{ForeignId, Uuid};
 use std::alloc::{AllocError, Global};
+use table_copies::PeerHashes;
 
 /// The call or lookup of the event under way, which it asks of the peer as it ends.
 #[derive(Drop)]
@@ -46,15 +47,16 @@ pub struct Transport {
 impl Transport {
     ghost use Rattle.sp_transport.specs.Transports.{IsTransport};
 
-    /// No connection is open, nothing is asked and no foreign reference was ever held.
-    pub fn new(alloc: Global) -> Transport
+    /// No connection is open, nothing is asked and no foreign reference was ever held. What peers pick is hashed in
+    /// this way.
+    pub fn new(alloc: Global, hashes: PeerHashes) -> Transport
         ensures { IsTransport opening result }
     {
         Transport {
             alloc,
-            leases: Clients::new(alloc),
-            connections: Connections::new(alloc),
-            noted: NotedPeers::new(alloc),
+            leases: Clients::with_hashes(alloc, hashes),
+            connections: Connections::new(alloc, hashes),
+            noted: NotedPeers::new(alloc, hashes),
             peers: Peers::new(alloc),
             calls_made: 0,
             groups_made: 0,

@@ -9,7 +9,7 @@ use Rattle.table_copies.proofs.caches.copy_cache.Goals as goal
 
 pub loop-key-init : goal.loop-key-init
 loop-key-init g c = record {
-  cap = ap (λ (l : LruCache g.row.K.Denot g.row.V.Denot). l.cap) c.in_ok-copy.ensures ∙ c.cap.ensures;
+  cap = ap (λ (l : LruCache g.row.K.Denot g.row.V.Denot). l.cap) c.in_ok-copy.ensures ∙ sym c.requires;
   copied = (
     [],
     append-nil c.into_iter-key-iterator.result.iter

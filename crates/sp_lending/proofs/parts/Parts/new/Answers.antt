@@ -8,4 +8,4 @@ use Rattle.sp_lending.proofs.parts.Parts.new.Goals as goal
 pub returns : goal.returns
 returns c = λ g classes id digest limits version.
     new-space g _ (home-of g _ c.out_of_memory-thrown.result classes id limits c.out_of_memory-thrown.ensures (subst AreLinks c.linked.ensures.linked c.len-methods.ensures.links) c.linked.ensures.sound c.requires.rules)
-    (classes ∙ ap classes_of (sym c.requires.classes)) (c.in_ok-new.ensures g id digest limits.fuel version) c.new-2.ensures
+    (classes ∙ ap classes_of (sym c.requires.classes)) (c.in_ok-with_hashes.ensures g id digest limits.fuel version) c.new.ensures

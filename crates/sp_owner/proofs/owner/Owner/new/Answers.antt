@@ -10,5 +10,5 @@ returns c = λ g same. record {
   holds = c.new.ensures.holds;
   objects_made = c.new.ensures.made;
   names = c.in_ok-new.ensures;
-  entries = c.new-3.ensures;
+  entries = c.with_hashes.ensures;
 }

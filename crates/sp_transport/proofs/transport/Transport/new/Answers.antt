@@ -7,13 +7,13 @@ use Rattle.sp_transport.proofs.transport.Transport.new.Goals as goal
 pub returns : goal.returns
 unfolding opening
 returns c = record {
-  leases = c.new.ensures;
-  connections = c.new-2.ensures;
-  noted = λ peer. ap (λ l. is_among l peer) c.new-3.ensures;
-  asked = c.new-4.ensures;
+  leases = c.with_hashes.ensures;
+  connections = c.new.ensures;
+  noted = λ peer. ap (λ l. is_among l peer) c.new-2.ensures;
+  asked = c.new-3.ensures;
   calls_made = refl;
   groups_made = refl;
   fresh = refl;
-  notes = c.new-5.ensures;
+  notes = c.new-4.ensures;
   lines = opening-lines;
 }

@@ -3,7 +3,7 @@ use Rattle.sp_rules.specs.State.{opening}
 use Rattle.sp_state.specs.Spaces.{IsSpace}
 use Rattle.sp_state.specs.declared.space_state.SpaceState.{SpaceState}
 use Rattle.sp_core.proofs.RestLemmas.{opening-rest}
-use Rattle.sp_core.proofs.space_core.SpaceCore.new.Goals as goal
+use Rattle.sp_core.proofs.space_core.SpaceCore.with_hashes.Goals as goal
 
 pub returns : goal.returns
 returns c = λ g id digest fuel version. record {
