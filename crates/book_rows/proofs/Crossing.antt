@@ -5,6 +5,7 @@ use denote.Param.Send.{IsSend, sendable}
 use denote.Param.SendFields.{declared_send}
 use denote.Struct.Record.{declared}
 use Rattle.std.proofs.Crossing.{crosses}
+use Rattle.boxed_value.proofs.Boxed.TheSendSync as boxed
 use Rattle.ghost_value.proofs.Ghost.TheSendSync as ghost
 use Rattle.vm_step.proofs.program.Program.TheSendSync as program
 use Rattle.vm_step.specs.contracts.task.Task as Task
@@ -29,7 +30,7 @@ task_send : IsSend Task.the_row
 task_send = search (sendable, crosses, ghost.the_send) depth 60 fits 30000
 
 player_send : (κ : NamedLft) → IsSend (TaskMachine.the_row κ)
-player_send κ = search (task_send, program.the_sync, sendable, crosses) depth 60 fits 30000
+player_send κ = search (task_send, boxed.the_send, program.the_sync, sendable, crosses) depth 60 fits 30000
 
 rows_send : (κ : NamedLft) → IsSend (Rows.the_row κ)
 rows_send κ = search (player_send, map.the_send, sendable, crosses) depth 60 fits 30000

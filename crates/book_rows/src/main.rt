@@ -31,6 +31,7 @@ use std::io;
 use std::io::Write;
 use std::marker::Brand;
 use std::process::ExitCode;
+use table_copies::PeerHashes;
 use vm_step::{Limits, Program};
 
 mod counter;
@@ -158,7 +159,16 @@ fn play_over<'p, M: Setup + Send, R: Host, W: Write>(
     requires rules { AreRemoteRules program.now.classes }
     requires setting { M.setting ≡ setting_of program.now id digest limits 1 }
 {
-    let space = LendingSpace::<'p, M>::new(rt.alloc(), program, classes, digest, id, limits, 1)?;
+    let space = LendingSpace::<'p, M>::new(
+        rt.alloc(),
+        program,
+        classes,
+        digest,
+        id,
+        limits,
+        1,
+        PeerHashes::Fixed,
+    )?;
     play_in::<M, LendingSpace<'p, M>, R, W>(rt, space, play, out)
 }
 

@@ -14,6 +14,7 @@ use space_ids::Uuid;
 use std::io::BufReader;
 use std::marker::Brand;
 use std::thread;
+use table_copies::PeerHashes;
 use vm_step::{Limits, Program};
 
 /// Serves a space of this program, whose lines are typed. Returns its status.
@@ -52,7 +53,16 @@ fn serve_over<'p, N: Setup + Send, R: Host, G: Gate + Drop + Sync>(
     requires rules { AreRemoteRules program.now.classes }
     requires setting { N.setting ≡ setting_of program.now id digest limits 1 }
 {
-    match ServedSpace::<'p, N>::new(rt.alloc(), program, classes, digest, id, limits, 1) {
+    match ServedSpace::<'p, N>::new(
+        rt.alloc(),
+        program,
+        classes,
+        digest,
+        id,
+        limits,
+        1,
+        PeerHashes::Fixed,
+    ) {
         Ok(space) => serve(rt, journal, space, part, gate, lines),
         Err(_) => 3,
     }
